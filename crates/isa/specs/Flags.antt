@@ -1,0 +1,126 @@
+-- Document 01, "Flags and signs".
+use Prim.Native.Nat.{ℕ, zero, suc, _+_, _-_, _*_, _/_, _%_, _^_}
+use mathlib.Core.Bool.{Bool, true, false, cond, not, _||_}
+use lib.Dec.{ltb, leb, eqb}
+use lib.IntN.{ℤ, pos, negsuc, natAbs, _+ℤ_, _*ℤ_}
+use lib.Signed.{mag, leZ, quotZ, remZ}
+use Rattle.isa.specs.Machine.{flagOf, withBit, flagQ, flagO, flagC}
+use Rattle.isa.specs.declared.instruction.Relation.{Relation}
+use Rattle.isa.specs.declared.instruction.Relation.the-variants.{Eql, Geq, Gre, Mgre, Ueq, Lss, Lst, Mlst}
+use Rattle.isa.specs.declared.instruction.ShiftKind.{ShiftKind}
+use Rattle.isa.specs.declared.instruction.ShiftKind.the-variants.{Arithmetic, Rotational, ZeroInput, LinkInput}
+
+-- The signed meaning of the k bits n, in two's complement. (`negsuc n` is the whole number -(n + 1).)
+abbrev pub signedOf : ℕ → ℕ → ℤ
+signedOf k n = cond (ltb n (2 ^ (k - 1))) (pos n) (negsuc (2 ^ k - suc n))
+
+-- The low k bits of a whole number in two's complement.
+abbrev pub bitsOf : ℕ → ℤ → ℕ
+bitsOf k (pos n) = n % 2 ^ k
+bitsOf k (negsuc n) = 2 ^ k - suc (n % 2 ^ k)
+
+-- A whole number is beyond 16 bits signed. (`mag z` is n both for n and for -(n + 1).)
+abbrev pub tooLarge : ℤ → Bool
+tooLarge z = leb 32768 (mag z)
+
+-- "the complement" of a word
+abbrev pub complement : ℕ → ℕ
+complement w = 65535 - w
+
+-- ADD, AAx and adding register operations, with any carry in: "C is the adder's carry, O the signed overflow".
+pub record Sum : Type 0 where
+  pub value : ℕ
+  pub carry : ℕ
+  pub overflow : ℕ
+
+unfoldable pub adder : ℕ → ℕ → ℕ → Sum
+adder a b c = record {
+  value = (a + b + c) % 65536;
+  carry = (a + b + c) / 65536;
+  overflow = flagOf (tooLarge (signedOf 16 a +ℤ signedOf 16 b +ℤ pos c));
+}
+
+-- "overflow also sets Q; without it O is 0 and Q stays"
+unfoldable pub withOverflow : ℕ → ℕ → ℕ
+withOverflow o sts = cond (eqb o 1) (withBit flagO 1 (withBit flagQ 1 sts)) (withBit flagO 0 sts)
+
+-- STS after an addition
+unfoldable pub withSum : Sum → ℕ → ℕ
+withSum s sts = withBit flagC (s .carry) (withOverflow (s .overflow) sts)
+
+-- "MPY: A gets the low 16 bits. O and Q are set if the product's absolute value exceeds 32,767"
+abbrev pub product : ℕ → ℕ → ℤ
+product a b = signedOf 16 a *ℤ signedOf 16 b
+
+unfoldable pub productOverflow : ℕ → ℕ → ℕ
+productOverflow a b = flagOf (ltb 32767 (natAbs (product a b)))
+
+-- "RDIV: quotient toward zero in A, remainder with the dividend's sign in D. Divisor 0 or a quotient outside -32,768 to 32,767"
+-- fails. The dividend is the 32 bits n, the divisor the 16 bits d.
+abbrev pub quotient : ℕ → ℕ → ℤ
+quotient n d = quotZ (signedOf 32 n) (signedOf 16 d)
+
+abbrev pub remainder : ℕ → ℕ → ℤ
+remainder n d = remZ (signedOf 32 n) (signedOf 16 d)
+
+unfoldable pub divisionFails : ℕ → ℕ → Bool
+divisionFails n d = eqb d 0 || tooLarge (quotient n d)
+
+-- What is shifted: a value of some width, and M.
+pub record Shifted : Type 0 where
+  pub value : ℕ
+  pub m : ℕ
+
+-- One place to the left in a width: the top bit leaves, and a bit comes in at the lower end, by the kind.
+abbrev pub lowerInput : ShiftKind → ℕ → ℕ → ℕ
+lowerInput Arithmetic top m = 0
+lowerInput Rotational top m = top
+lowerInput ZeroInput top m = 0
+lowerInput LinkInput top m = m
+
+unfoldable pub leftOnce : ℕ → ShiftKind → Shifted → Shifted
+leftOnce w k s =
+    let top = s .value / 2 ^ (w - 1) in
+    record { value = s .value % 2 ^ (w - 1) * 2 + lowerInput k top (s .m); m = top }
+
+-- One place to the right: the lowest bit leaves, and a bit comes in at the upper end.
+abbrev pub upperInput : ShiftKind → ℕ → ℕ → ℕ → ℕ
+upperInput Arithmetic top low m = top
+upperInput Rotational top low m = low
+upperInput ZeroInput top low m = 0
+upperInput LinkInput top low m = m
+
+unfoldable pub rightOnce : ℕ → ShiftKind → Shifted → Shifted
+rightOnce w k s =
+    let top = s .value / 2 ^ (w - 1) in
+    let low = s .value % 2 in
+    record { value = upperInput k top low (s .m) * 2 ^ (w - 1) + s .value / 2; m = low }
+
+-- So many single shifts. "M gets the last bit shifted out. Count 0 changes nothing."
+abbrev pub leftBy : ℕ → ShiftKind → ℕ → Shifted → Shifted
+leftBy w k zero s = s
+leftBy w k (suc n) s = leftOnce w k (leftBy w k n s)
+
+abbrev pub rightBy : ℕ → ShiftKind → ℕ → Shifted → Shifted
+rightBy w k zero s = s
+rightBy w k (suc n) s = rightOnce w k (rightBy w k n s)
+
+-- "The shift count is .. left when positive."
+abbrev pub shiftBy : ℕ → ShiftKind → ℤ → Shifted → Shifted
+shiftBy w k (pos n) s = leftBy w k n s
+shiftBy w k (negsuc n) s = rightBy w k (suc n) s
+
+-- "GEQ tests the sign of dr - sr in 16 bits; GRE is the true signed comparison." MGRE compares without signs (document 002:
+-- C = 1 of dr - sr), and the other four are the complements.
+abbrev pub less : ℕ → ℕ → ℕ
+less d s = (d + (65536 - s)) % 65536
+
+abbrev pub compares : Relation → ℕ → ℕ → Bool
+compares Eql d s = eqb d s
+compares Geq d s = ltb (less d s) 32768
+compares Gre d s = leZ (signedOf 16 s) (signedOf 16 d)
+compares Mgre d s = leb s d
+compares Ueq d s = not (eqb d s)
+compares Lss d s = not (ltb (less d s) 32768)
+compares Lst d s = not (leZ (signedOf 16 s) (signedOf 16 d))
+compares Mlst d s = not (leb s d)

@@ -1,0 +1,61 @@
+-- Document 01, "Pages" (which pages an entry permits) and "Two machines side by side".
+use Prim.Native.Nat.{ℕ, zero, suc, _+_, _*_, _/_}
+use mathlib.Core.Path.{_≡_}
+use mathlib.Core.Bool.{Bool, true, false, not, _&&_, _||_}
+use mathlib.Core.List.{List}
+use lib.ListN.{getD, length}
+use lib.Dec.{eqb}
+use Rattle.isa.specs.Machine.{flagOf, ringOf, normalTableOf, alternateTableOf}
+use Rattle.isa.specs.Pages.{Entry, entryAt, somePermit, ringAllows}
+use Rattle.isa.specs.declared.machine.State.{State}
+
+-- "An entry permits its page to a ring if some permit is set and the entry's ring is not above that ring; for writing, if bit 15 is
+-- set as well."
+abbrev pub permits : Entry → ℕ → ℕ → Bool
+permits e ring page = somePermit e && ringAllows e ring && eqb (e .page) page
+
+abbrev pub permitsWriting : Entry → ℕ → ℕ → Bool
+permitsWriting e ring page = permits e ring page && e .write
+
+-- some number below n passes the test
+abbrev pub someBelow : ℕ → (ℕ → Bool) → Bool
+someBelow zero f = false
+someBelow (suc n) f = f n || someBelow n f
+
+-- "no entry of the two tables permits to the ring": some entry of the tables a and b does
+unfoldable pub permitted : List ℕ → ℕ → ℕ → ℕ → ℕ → Bool
+permitted t a b ring page =
+    someBelow 64 (λ v. permits (entryAt t (a * 64 + v)) ring page) || someBelow 64 (λ v. permits (entryAt t (b * 64 + v)) ring page)
+
+unfoldable pub permittedWriting : List ℕ → ℕ → ℕ → ℕ → ℕ → Bool
+permittedWriting t a b ring page =
+    someBelow 64 (λ v. permitsWriting (entryAt t (a * 64 + v)) ring page)
+    || someBelow 64 (λ v. permitsWriting (entryAt t (b * 64 + v)) ring page)
+
+-- "A start's level is control word 0, its ring bits 1-0 of that level's PCR, its two tables the normal and the alternate one named
+-- there (they may be one)." A page that is permitted from the start s with the tables t, and one permitted for writing.
+abbrev pub startPcr : State → ℕ
+startPcr s = getD (s .pcr) (s .level) 0
+
+abbrev pub reachable : State → List ℕ → ℕ → Bool
+reachable s t page = permitted t (normalTableOf (startPcr s)) (alternateTableOf (startPcr s)) (ringOf (startPcr s)) page
+
+abbrev pub writable : State → List ℕ → ℕ → Bool
+writable s t page = permittedWriting t (normalTableOf (startPcr s)) (alternateTableOf (startPcr s)) (ringOf (startPcr s)) page
+
+-- "Both starts have equally much memory and are equal in .. each memory word outside the pages that no entry of the two tables
+-- permits to the ring", the state and the tables being one.
+pub record AlikeStarts (s : State) (t m n : List ℕ) : Type 0 where
+  pub size : length m ≡ length n
+  pub same : (k : ℕ) → reachable s t (k / 1024) ≡ true → getD m k 0 ≡ getD n k 0
+
+-- "A word differs if the two memories hold different values at one physical address; the count is of such addresses."
+abbrev pub differs : List ℕ → List ℕ → ℕ → Bool
+differs m n k = not (eqb (getD m k 0) (getD n k 0))
+
+abbrev pub differingBelow : ℕ → List ℕ → List ℕ → ℕ
+differingBelow zero m n = 0
+differingBelow (suc k) m n = flagOf (differs m n k) + differingBelow k m n
+
+abbrev pub differingWords : List ℕ → List ℕ → ℕ
+differingWords m n = differingBelow (length m) m n

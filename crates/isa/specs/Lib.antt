@@ -1,0 +1,13 @@
+-- The ND-110 as definitions, in the order of document 01's sections.
+pub mod Machine
+pub mod Decode
+pub mod Address
+pub mod Flags
+pub mod Instructions
+pub mod System
+pub mod Pages
+pub mod Step
+pub mod Run
+pub mod Images
+pub mod Answers
+pub mod Isolation

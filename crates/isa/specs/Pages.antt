@@ -1,0 +1,217 @@
+-- Document 01, "Pages".
+use Prim.Native.Nat.{ℕ, zero, suc, _+_, _*_, _/_, _%_}
+use mathlib.Core.Bool.{Bool, true, false, cond, not, _&&_, _||_}
+use mathlib.Core.List.{List, [], _∷_}
+use lib.ListN.{getD, set, length}
+use lib.Dec.{ltb, leb, eqb}
+use Rattle.isa.specs.Machine.{bit, reg, flag, flagPTM, ringOf, normalTableOf, alternateTableOf, withPcr}
+use Rattle.isa.specs.declared.machine.Core.{Core}
+use Rattle.isa.specs.declared.access.Access.{Access}
+use Rattle.isa.specs.declared.access.Kind.{Kind}
+use Rattle.isa.specs.declared.access.Kind.the-variants.{Fetch, Read, Write, Indirect}
+use Rattle.isa.specs.declared.access.Rights.{Rights}
+use Rattle.isa.specs.declared.access.Translation.{Translation}
+use Rattle.isa.specs.declared.access.Translation.the-variants.{NoAccess, Load, Store, LoadTable, StoreTable, Protection, PageFault, OutOfRange}
+
+-- "Entry: bit 15 write, 14 read, 13 fetch permitted, 12 WIP, 11 PGU, 10-9 ring, 8-0 physical page."
+pub record Entry : Type 0 where
+  pub write : Bool
+  pub read : Bool
+  pub fetch : Bool
+  pub wip : Bool
+  pub pgu : Bool
+  pub ring : ℕ
+  pub page : ℕ
+
+abbrev pub entryOf : ℕ → Entry
+entryOf e = record {
+  write = eqb (bit 15 e) 1;
+  read = eqb (bit 14 e) 1;
+  fetch = eqb (bit 13 e) 1;
+  wip = eqb (bit 12 e) 1;
+  pgu = eqb (bit 11 e) 1;
+  ring = e / 512 % 4;
+  page = e % 512;
+}
+
+-- "four tables of 64 entries": where the entry of a virtual address stands, by the table; and the entry there
+abbrev pub slotOf : ℕ → ℕ → ℕ
+slotOf table a = table * 64 + a / 1024 % 64
+
+abbrev pub entryAt : List ℕ → ℕ → Entry
+entryAt t i = entryOf (getD t i 0)
+
+abbrev pub somePermit : Entry → Bool
+somePermit e = e .write || e .read || e .fetch
+
+-- "the needed permit .. (an indirect word needs read or fetch)"
+abbrev pub needed : Entry → Kind → Bool
+needed e Fetch = e .fetch
+needed e Read = e .read
+needed e Write = e .write
+needed e Indirect = e .read || e .fetch
+
+-- "entry's ring above the user's"
+abbrev pub ringAllows : Entry → ℕ → Bool
+ringAllows e ring = leb (e .ring) ring
+
+-- the physical address by an entry
+abbrev pub physical : Entry → ℕ → ℕ
+physical e a = e .page * 1024 + a % 1024
+
+-- "Interrupts 2 and 3 set PGS: bit 15 instruction fetch, 14 permit missing (so with every 3), 7-6 table, 5-0 virtual page." The
+-- last two together are the entry's slot.
+abbrev pub fetchBit : Kind → ℕ
+fetchBit Fetch = 32768
+fetchBit Read = 0
+fetchBit Write = 0
+fetchBit Indirect = 0
+
+abbrev pub pagingStatus : Kind → ℕ → ℕ → ℕ
+pagingStatus k missing slot = fetchBit k + missing + slot
+
+-- where a passed access goes: to load or to store a word of memory, or of the page tables
+abbrev pub inMemory : Kind → ℕ → Translation
+inMemory Fetch p = Load p
+inMemory Read p = Load p
+inMemory Write p = Store p
+inMemory Indirect p = Load p
+
+abbrev pub inTables : Kind → ℕ → Translation
+inTables Fetch i = LoadTable i
+inTables Read i = LoadTable i
+inTables Write i = StoreTable i
+inTables Indirect i = LoadTable i
+
+-- "page beyond the memory, interrupt 9"; words is the size of the memory
+unfoldable pub withinMemory : ℕ → Kind → ℕ → Translation
+withinMemory words k p = cond (ltb p words) (inMemory k p) OutOfRange
+
+-- "Tests in order: all three permits 0, interrupt 3; the needed permit missing, interrupt 2; entry's ring above the user's,
+-- interrupt 2; page beyond the memory, interrupt 9."
+unfoldable pub judged : Entry → ℕ → ℕ → ℕ → Kind → ℕ → Translation
+judged e slot words ring k a =
+    cond (not (somePermit e)) (PageFault (pagingStatus k 16384 slot))
+    (cond (not (needed e k)) (Protection (pagingStatus k 16384 slot))
+    (cond (not (ringAllows e ring)) (Protection (pagingStatus k 0 slot)) (withinMemory words k (physical e a))))
+
+-- the table that an access goes by
+abbrev pub tableOf : Rights → Bool → ℕ
+tableOf r alternate = cond alternate (r .alternate) (r .normal)
+
+-- "Addresses 177400 to 177777 are the page tables when paging is off or the ring is 3, for fetches too"
+unfoldable pub inWindow : Rights → ℕ → Bool
+inWindow r a = leb 0o177400 a && (not (r .paging) || eqb (r .ring) 3)
+
+-- One access, of a machine with so many words of memory. "With paging off all is permitted and addresses are physical."
+unfoldable pub translate : List ℕ → ℕ → Rights → Access → Translation
+translate t words r x =
+    let a = x .address in
+    let i = slotOf (tableOf r (x .alternate)) a in
+    cond (inWindow r a) (inTables (x .kind) (a % 256))
+    (cond (r .paging) (judged (entryAt t i) i words (r .ring) (x .kind) a) (withinMemory words (x .kind) a))
+
+-- the number of the interrupt that an access gives, 0 where it passed; and PGS after it
+abbrev pub faultOf : Translation → ℕ
+faultOf NoAccess = 0
+faultOf (Load p) = 0
+faultOf (Store p) = 0
+faultOf (LoadTable i) = 0
+faultOf (StoreTable i) = 0
+faultOf (Protection g) = 2
+faultOf (PageFault g) = 3
+faultOf OutOfRange = 9
+
+abbrev pub pgsAfter : ℕ → Translation → ℕ
+pgsAfter old NoAccess = old
+pgsAfter old (Load p) = old
+pgsAfter old (Store p) = old
+pgsAfter old (LoadTable i) = old
+pgsAfter old (StoreTable i) = old
+pgsAfter old (Protection g) = g
+pgsAfter old (PageFault g) = g
+pgsAfter old OutOfRange = old
+
+abbrev pub passes : Translation → Bool
+passes x = eqb (faultOf x) 0
+
+-- "A passed access sets PGU, a passed write also WIP; a failed one neither."
+abbrev pub markOf : Kind → ℕ → ℕ
+markOf Fetch e = e / 4096 * 4096 + 2048 + e % 2048
+markOf Read e = e / 4096 * 4096 + 2048 + e % 2048
+markOf Write e = e / 8192 * 8192 + 6144 + e % 2048
+markOf Indirect e = e / 4096 * 4096 + 2048 + e % 2048
+
+-- the tables after an access; in the window "with no mark"
+unfoldable pub marked : List ℕ → ℕ → Rights → Access → List ℕ
+marked t words r x =
+    let i = slotOf (tableOf r (x .alternate)) (x .address) in
+    cond (r .paging && not (inWindow r (x .address)) && passes (translate t words r x)) (set t i (markOf (x .kind) (getD t i 0))) t
+
+-- What a list of accesses leaves: the tables with their marks, where each goes, and the first fault, or NoAccess if all passed.
+pub record Tested : Type 0 where
+  pub tables : List ℕ
+  pub places : List Translation
+  pub fault : Translation
+
+abbrev pub alsoAt : Translation → Tested → Tested
+alsoAt x r = record { tables = r .tables; places = x ∷ r .places; fault = r .fault }
+
+-- "accesses in order, all of them tested before the first store": one by one, up to the first that fails
+abbrev pub testAll : List ℕ → ℕ → Rights → List Access → Tested
+testAll t words r [] = record { tables = t; places = []; fault = NoAccess }
+testAll t words r (x ∷ xs) =
+    cond (passes (translate t words r x)) (alsoAt (translate t words r x) (testAll (marked t words r x) words r xs))
+    (record { tables = t; places = []; fault = translate t words r x })
+
+-- the words at the places, 0 where a place is not one to load from
+abbrev pub wordAt : List ℕ → List ℕ → Translation → ℕ
+wordAt m t NoAccess = 0
+wordAt m t (Load p) = getD m p 0
+wordAt m t (Store p) = 0
+wordAt m t (LoadTable i) = getD t i 0
+wordAt m t (StoreTable i) = 0
+wordAt m t (Protection g) = 0
+wordAt m t (PageFault g) = 0
+wordAt m t OutOfRange = 0
+
+abbrev pub wordsAt : List ℕ → List ℕ → List Translation → List ℕ
+wordsAt m t [] = []
+wordsAt m t (x ∷ xs) = wordAt m t x ∷ wordsAt m t xs
+
+-- memory and tables after words were stored, in order, at the places to store to
+pub record Lent : Type 0 where
+  pub memory : List ℕ
+  pub tables : List ℕ
+
+abbrev pub lent : List ℕ → List ℕ → Lent
+lent m t = record { memory = m; tables = t }
+
+abbrev pub storeAll : List ℕ → List ℕ → List Translation → List ℕ → Lent
+storeAll m t [] ws = lent m t
+storeAll m t (NoAccess ∷ xs) ws = storeAll m t xs ws
+storeAll m t (Load p ∷ xs) ws = storeAll m t xs ws
+storeAll m t (Store p ∷ xs) [] = lent m t
+storeAll m t (Store p ∷ xs) (w ∷ ws) = storeAll (set m p w) t xs ws
+storeAll m t (LoadTable i ∷ xs) ws = storeAll m t xs ws
+storeAll m t (StoreTable i ∷ xs) [] = lent m t
+storeAll m t (StoreTable i ∷ xs) (w ∷ ws) = storeAll m (set t i w) xs ws
+storeAll m t (Protection g ∷ xs) ws = storeAll m t xs ws
+storeAll m t (PageFault g ∷ xs) ws = storeAll m t xs ws
+storeAll m t (OutOfRange ∷ xs) ws = storeAll m t xs ws
+
+-- What the running level's accesses are judged by. "With PTM 0 all use the normal table."
+abbrev pub rightsOf : Core → Rights
+rightsOf c = record {
+  paging = eqb (c .control .paging) 1;
+  ring = ringOf (c .pcr);
+  normal = normalTableOf (c .pcr);
+  alternate = cond (eqb (flag flagPTM (c .file)) 1) (alternateTableOf (c .pcr)) (normalTableOf (c .pcr));
+}
+
+-- "A passed fetch from a lower ring lowers the user's ring in PCR"; in the window no lowering
+abbrev pub loweredPcr : ℕ → ℕ → ℕ
+loweredPcr p ring = p / 4 * 4 + ring
+
+unfoldable pub lowered : Core → ℕ → Core
+lowered c ring = cond (ltb ring (ringOf (c .pcr))) (withPcr c (loweredPcr (c .pcr) ring)) c

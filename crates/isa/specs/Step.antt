@@ -1,0 +1,319 @@
+-- Document 01, "One step": stages over the running level, each taking what the one before found, and their packing into a state.
+use Prim.Native.Nat.{ℕ, zero, suc, _+_, _*_, _/_, _%_}
+use mathlib.Core.Bool.{Bool, true, false, cond, not, _&&_, _||_}
+use mathlib.Core.List.{List, [], _∷_, map}
+use lib.ListN.{getD, set, length}
+use lib.Dec.{ltb, leb, eqb}
+use lib.Bits.{bitAnd}
+use Rattle.isa.specs.Machine.{bit, withBit, number, reg, withReg, next, nextCore, fileAt, putFile, coreOf, withCore, withFile, withPcr, withControl, ringOf, pcrMask}
+use Rattle.isa.specs.Flags.{bitsOf}
+use Rattle.isa.specs.Decode.{decode, fourOf}
+use Rattle.isa.specs.Address.{sum, access}
+use Rattle.isa.specs.Instructions.{indirectRequest, request, complete, operand, Completed}
+use Rattle.isa.specs.System.{highestIn, withLevels, withPid, withInternal, controlled}
+use Rattle.isa.specs.Pages.{slotOf, entryAt, translate, marked, testAll, Tested, faultOf, pgsAfter, passes, wordAt, wordsAt, storeAll, Lent, lent, rightsOf, inWindow, lowered}
+use Rattle.isa.specs.declared.machine.Control.{Control}
+use Rattle.isa.specs.declared.machine.Core.{Core}
+use Rattle.isa.specs.declared.machine.File.{File}
+use Rattle.isa.specs.declared.machine.State.{State}
+use Rattle.isa.specs.declared.machine.Register.{Register}
+use Rattle.isa.specs.declared.machine.Register.the-variants.{Sts, D, P, B, L, A, T, X}
+use Rattle.isa.specs.declared.instruction.User.{User}
+use Rattle.isa.specs.declared.instruction.System.{System}
+use Rattle.isa.specs.declared.instruction.System.the-variants.{Control as ControlOf, TraPgc, TrrPcr, Irr, Irw, Srb, Lrb, Exam, Depo, Iox, Ioxt, Ident}
+use Rattle.isa.specs.declared.instruction.Instruction.{Instruction}
+use Rattle.isa.specs.declared.instruction.Instruction.the-variants.{Unprivileged, Privileged, Execute, Monitor, Illegal}
+use Rattle.isa.specs.declared.access.Access.{Access}
+use Rattle.isa.specs.declared.access.Kind.{Kind}
+use Rattle.isa.specs.declared.access.Kind.the-variants.{Fetch, Read, Write}
+use Rattle.isa.specs.declared.access.Translation.{Translation}
+use Rattle.isa.specs.declared.access.Translation.the-variants.{NoAccess, Load, Store, LoadTable, StoreTable, Protection, PageFault, OutOfRange}
+use Rattle.isa.specs.declared.answer.Far.{Far}
+use Rattle.isa.specs.declared.answer.Far.the-variants.{Nothing, Call, ReadRegister, WriteRegister, ReadPcr, WritePcr, StoreBlock, LoadBlock}
+use Rattle.isa.specs.declared.answer.Near.{Near}
+
+-- ---- what a step leaves
+
+-- of the running level: its core, the interrupt given and what is left to be done; memory and tables
+pub record Part : Type 0 where
+  pub near : Near
+  pub memory : List ℕ
+  pub tables : List ℕ
+
+abbrev pub part : Core → ℕ → Far → List ℕ → List ℕ → Part
+part c n far m t = record { near = record { core = c; gave = n; far = far }; memory = m; tables = t }
+
+-- of the machine: the state, and the number of the interrupt given, or 0
+pub record Turn : Type 0 where
+  pub state : State
+  pub gave : ℕ
+  pub memory : List ℕ
+  pub tables : List ℕ
+
+abbrev pub turn : State → ℕ → List ℕ → List ℕ → Turn
+turn s n m t = record { state = s; gave = n; memory = m; tables = t }
+
+-- ---- interrupts
+
+-- "An interrupt sets its IID bit; if IIE has it, PID bit 14 too."
+abbrev pub detected : ℕ → Control → Control
+detected n k = withInternal k (withBit n 1 (k .iid)) (k .iie) (k .pgs)
+
+unfoldable pub interrupted : ℕ → Control → Control
+interrupted n k = cond (eqb (bit n (k .iie)) 1) (withPid (detected n k) (withBit 14 1 (k .pid))) (detected n k)
+
+abbrev pub gives : ℕ → Core → Core
+gives n c = withControl c (interrupted n (c .control))
+
+-- an access that failed: "Interrupts 2 and 3 set PGS"
+abbrev pub withPgs : Control → Translation → Control
+withPgs k x = withInternal k (k .iid) (k .iie) (pgsAfter (k .pgs) x)
+
+unfoldable pub faulted : Translation → Core → Core
+faulted x c = gives (faultOf x) (withControl c (withPgs (c .control) x))
+
+-- "An instruction that faults stores nothing and changes no register but P. Fetch faults leave P; all others leave it one
+-- further." c is the core with P where it is left.
+abbrev pub failed : Core → Translation → List ℕ → List ℕ → Part
+failed c x m t = part (faulted x c) (faultOf x) Nothing m t
+
+-- an interrupt of an instruction that is not by an access
+abbrev pub trapped : ℕ → Core → List ℕ → List ℕ → Part
+trapped n c m t = part (gives n (nextCore c)) n Nothing m t
+
+-- ---- an unprivileged instruction
+
+-- the words are stored; RDIV's error gives interrupt 5
+abbrev pub errorOf : Completed → ℕ
+errorOf d = cond (d .error) 5 0
+
+abbrev pub finishedCore : Core → Completed → Core
+finishedCore c d = cond (d .error) (gives 5 (withFile c (d .file))) (withFile c (d .file))
+
+unfoldable pub finished : Core → List ℕ → List ℕ → List Translation → Completed → Part
+finished c m t places d =
+    let r = storeAll m t places (d .stores) in
+    part (finishedCore c d) (errorOf d) Nothing (r .memory) (r .tables)
+
+-- all accesses were tested: read, complete, store; i is the indirect word
+unfoldable pub operandsTested : Core → List ℕ → User → ℕ → Tested → Part
+operandsTested c m u i r =
+    cond (passes (r .fault))
+    (finished c m (r .tables) (r .places) (complete u (c .file) i (wordsAt m (r .tables) (r .places))))
+    (failed (nextCore c) (r .fault) m (r .tables))
+
+unfoldable pub operands : Core → List ℕ → List ℕ → User → ℕ → Part
+operands c m t u i = operandsTested c m u i (testAll t (length m) (rightsOf c) (request u (c .file) i))
+
+-- the access for the indirect word was tested
+unfoldable pub indirectTested : Core → List ℕ → User → Tested → Part
+indirectTested c m u r =
+    cond (passes (r .fault)) (operands c m (r .tables) u (getD (wordsAt m (r .tables) (r .places)) 0 0))
+    (failed (nextCore c) (r .fault) m (r .tables))
+
+unfoldable pub userStage : Core → List ℕ → List ℕ → User → Part
+userStage c m t u = indirectTested c m u (testAll t (length m) (rightsOf c) (indirectRequest u (c .file)))
+
+-- ---- a privileged instruction
+
+-- EXAM loads T from, and DEPO stores T in, the physical address A * 65,536 + D: "EXAM and DEPO reach memory only. For them ..
+-- an address past the memory gives 9."
+abbrev pub physicalAddress : File → ℕ
+physicalAddress f = reg f A * 65536 + reg f D
+
+unfoldable pub examined : Core → List ℕ → List ℕ → Part
+examined c m t =
+    let p = physicalAddress (c .file) in
+    cond (ltb p (length m)) (part (withFile c (withReg (next (c .file)) T (getD m p 0))) 0 Nothing m t) (failed (nextCore c) OutOfRange m t)
+
+unfoldable pub deposited : Core → List ℕ → List ℕ → Part
+deposited c m t =
+    let p = physicalAddress (c .file) in
+    cond (ltb p (length m)) (part (nextCore c) 0 Nothing (set m p (reg (c .file) T)) t) (failed (nextCore c) OutOfRange m t)
+
+-- what is left to be done outside the level l, or done here. "No device is fitted: IOX, IOXT and IDENT give interrupt 7."
+abbrev pub systemStage : ℕ → Core → List ℕ → List ℕ → System → Part
+systemStage l c m t (ControlOf o) = part (controlled l (nextCore c) o) 0 Nothing m t
+systemStage l c m t TraPgc = part (nextCore c) 0 ReadPcr m t
+systemStage l c m t TrrPcr = part (nextCore c) 0 WritePcr m t
+systemStage l c m t (Irr n r) = part (nextCore c) 0 (ReadRegister n r) m t
+systemStage l c m t (Irw n r) = part (nextCore c) 0 (WriteRegister n r) m t
+systemStage l c m t (Srb n) = part (nextCore c) 0 (StoreBlock n) m t
+systemStage l c m t (Lrb n) = part (nextCore c) 0 (LoadBlock n) m t
+systemStage l c m t Exam = examined c m t
+systemStage l c m t Depo = deposited c m t
+systemStage l c m t (Iox n) = trapped 7 c m t
+systemStage l c m t Ioxt = trapped 7 c m t
+systemStage l c m t (Ident n) = trapped 7 c m t
+
+-- "Privileged codes need ring 2 or 3 .., else interrupt 6. With paging off all is permitted"
+abbrev pub privileged : Core → Bool
+privileged c = not (eqb (c .control .paging) 1) || leb 2 (ringOf (c .pcr))
+
+-- ---- fetch and execute
+
+-- "Order of faults: the fetch; illegal; privileged; then accesses". "MON gives interrupt 1 and puts its sign-extended number
+-- into T of level 14."
+unfoldable pub instructionStage : ℕ → Core → List ℕ → List ℕ → Instruction → Part
+instructionStage l c m t (Unprivileged u) = userStage c m t u
+instructionStage l c m t (Privileged q) = cond (privileged c) (systemStage l c m t q) (trapped 6 c m t)
+instructionStage l c m t (Execute s) = trapped 4 c m t
+instructionStage l c m t (Monitor n) = part (gives 1 (nextCore c)) 1 (Call (bitsOf 16 n)) m t
+instructionStage l c m t Illegal = trapped 4 c m t
+
+-- EXR executes the word in its register. "An EXR whose register holds an EXR is illegal", as an instruction Execute is above.
+abbrev pub executed : File → Instruction → Instruction
+executed f (Unprivileged u) = Unprivileged u
+executed f (Privileged q) = Privileged q
+executed f (Execute s) = decode (operand (next f) s)
+executed f (Monitor n) = Monitor n
+executed f Illegal = Illegal
+
+abbrev pub instructionOf : Core → ℕ → Instruction
+instructionOf c w = executed (c .file) (decode w)
+
+-- "A passed fetch from a lower ring lowers the user's ring in PCR before the word is decoded": a fetch from memory by way of
+-- an entry of that ring
+abbrev pub afterFetch : Core → ℕ → Translation → Core
+afterFetch c ring NoAccess = c
+afterFetch c ring (Load p) = cond (eqb (c .control .paging) 1) (lowered c ring) c
+afterFetch c ring (Store p) = c
+afterFetch c ring (LoadTable i) = c
+afterFetch c ring (StoreTable i) = c
+afterFetch c ring (Protection g) = c
+afterFetch c ring (PageFault g) = c
+afterFetch c ring OutOfRange = c
+
+unfoldable pub fetched : ℕ → Core → List ℕ → List ℕ → ℕ → Translation → Part
+fetched l c m t ring x =
+    cond (passes x) (instructionStage l (afterFetch c ring x) m t (instructionOf c (wordAt m t x))) (failed c x m t)
+
+-- every fetch goes by the normal table
+abbrev pub fetchOf : Core → Access
+fetchOf c = access Fetch false (reg (c .file) P)
+
+unfoldable pub stepIn : ℕ → Core → List ℕ → List ℕ → Part
+stepIn l c m t =
+    let r = rightsOf c in
+    let ring = entryAt t (slotOf (r .normal) (reg (c .file) P)) .ring in
+    fetched l c m (marked t (length m) r (fetchOf c)) ring (translate t (length m) r (fetchOf c))
+
+-- ---- what leaves the level
+
+abbrev pub withRegs : State → List ℕ → State
+withRegs s b = record { regs = b; level = s .level; control = s .control; pcr = s .pcr }
+
+abbrev pub withPcrs : State → List ℕ → State
+withPcrs s p = record { regs = s .regs; level = s .level; control = s .control; pcr = p }
+
+-- where register r of a level stands; a level has four bits
+abbrev pub placeOf : ℕ → Register → ℕ
+placeOf l r = l % 16 * 8 + number r
+
+abbrev pub registerAt : State → ℕ → Register → ℕ
+registerAt s l r = getD (s .regs) (placeOf l r) 0
+
+-- "IRW, LRB and TRR of STS keep bits 7-0 only."
+abbrev pub kept : Register → ℕ → ℕ
+kept Sts w = w % 256
+kept D w = w
+kept P w = w
+kept B w = w
+kept L w = w
+kept A w = w
+kept T w = w
+kept X w = w
+
+abbrev pub putRegister : State → ℕ → Register → ℕ → State
+putRegister s l r w = withRegs s (set (s .regs) (placeOf l r) (kept r w))
+
+-- P of the running level is not written by IRW and LRB
+abbrev pub isP : Register → Bool
+isP r = eqb (number r) 2
+
+unfoldable pub putOther : State → ℕ → Register → ℕ → State
+putOther s l r w = cond (eqb (l % 16) (s .level) && isP r) s (putRegister s l r w)
+
+-- a PCR's level is in A bits 6-3
+abbrev pub pcrLevel : State → ℕ
+pcrLevel s = fourOf (registerAt s (s .level) A)
+
+-- SRB and LRB: "P, X, T, A, D, L, STS, B", from the address in X on, by the alternate rule, each sum without its carry
+abbrev pub blockOrder : List Register
+blockOrder = P ∷ X ∷ T ∷ A ∷ D ∷ L ∷ Sts ∷ B ∷ []
+
+abbrev pub blockFrom : Kind → ℕ → List Register → List Access
+blockFrom k a [] = []
+blockFrom k a (r ∷ rs) = access k true a ∷ blockFrom k (sum a 1) rs
+
+abbrev pub blockRequest : Kind → State → List Access
+blockRequest k s = blockFrom k (registerAt s (s .level) X) blockOrder
+
+abbrev pub blockWords : State → ℕ → List Register → List ℕ
+blockWords s l [] = []
+blockWords s l (r ∷ rs) = registerAt s l r ∷ blockWords s l rs
+
+abbrev pub putBlock : State → ℕ → List Register → List ℕ → State
+putBlock s l [] ws = s
+putBlock s l (r ∷ rs) [] = s
+putBlock s l (r ∷ rs) (w ∷ ws) = putBlock (putOther s l r w) l rs ws
+
+-- a block's access failed: as any fault of the running level
+abbrev pub blockFailed : State → Translation → List ℕ → List ℕ → Turn
+blockFailed s x m t = turn (withCore s (faulted x (coreOf s))) (faultOf x) m t
+
+unfoldable pub blockStored : State → ℕ → List ℕ → Tested → Turn
+blockStored s l m r =
+    let k = storeAll m (r .tables) (r .places) (blockWords s l blockOrder) in
+    cond (passes (r .fault)) (turn s 0 (k .memory) (k .tables)) (blockFailed s (r .fault) m (r .tables))
+
+unfoldable pub blockLoaded : State → ℕ → List ℕ → Tested → Turn
+blockLoaded s l m r =
+    cond (passes (r .fault)) (turn (putBlock s l blockOrder (wordsAt m (r .tables) (r .places))) 0 m (r .tables))
+    (blockFailed s (r .fault) m (r .tables))
+
+abbrev pub blockTested : Kind → State → List ℕ → List ℕ → Tested
+blockTested k s m t = testAll t (length m) (rightsOf (coreOf s)) (blockRequest k s)
+
+-- what the running level left to be done, on the state in which P is one further
+unfoldable pub farStage : State → ℕ → List ℕ → List ℕ → Far → Turn
+farStage s n m t Nothing = turn s n m t
+farStage s n m t (Call w) = turn (putRegister s 14 T w) n m t
+farStage s n m t (ReadRegister l r) = turn (putRegister s (s .level) A (registerAt s l r)) n m t
+farStage s n m t (WriteRegister l r) = turn (putOther s l r (registerAt s (s .level) A)) n m t
+farStage s n m t ReadPcr = turn (putRegister s (s .level) A (getD (s .pcr) (pcrLevel s) 0)) n m t
+farStage s n m t WritePcr = turn (withPcrs s (set (s .pcr) (pcrLevel s) (pcrMask (registerAt s (s .level) A)))) n m t
+farStage s n m t (StoreBlock l) = blockStored s l m (blockTested Write s m t)
+farStage s n m t (LoadBlock l) = blockLoaded s l m (blockTested Read s m t)
+
+-- the running level's words are put back, then what is left is done
+unfoldable pub settled : State → Part → Turn
+settled s r = farStage (withCore s (r .near .core)) (r .near .gave) (r .memory) (r .tables) (r .near .far)
+
+-- ---- one step
+
+-- "the highest level in PID and PIE (0 if none)"
+abbrev pub highestLevel : Control → ℕ
+highestLevel k = highestIn 15 (bitAnd (k .pid) (k .pie))
+
+-- "Interrupts on, and the highest level .. is not the running one": a change of level is due
+unfoldable pub changeDue : State → Bool
+changeDue s = eqb (s .control .interrupts) 1 && not (eqb (highestLevel (s .control)) (s .level))
+
+-- "PVL takes the old level, the new one runs."
+unfoldable pub levelChanged : State → State
+levelChanged s = record {
+  regs = s .regs;
+  level = highestLevel (s .control);
+  control = withLevels (s .control) (s .control .pid) (s .control .pie) (s .level);
+  pcr = s .pcr;
+}
+
+abbrev pub isStopped : State → Bool
+isStopped s = eqb (s .control .stopped) 1
+
+-- "1. Stopped: nothing happens. 2. .. a change of level: that is the whole step. 3. Otherwise fetch and execute."
+unfoldable pub step : State → List ℕ → List ℕ → Turn
+step s m t =
+    cond (isStopped s) (turn s 0 m t)
+    (cond (changeDue s) (turn (levelChanged s) 0 m t) (settled s (stepIn (s .level) (coreOf s) m t)))

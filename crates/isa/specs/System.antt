@@ -1,0 +1,142 @@
+-- The privileged instructions that act on the running level and the control words alone: ION to MST.
+use Prim.Native.Nat.{ℕ, zero, suc, _+_, _*_, _/_, _%_, _^_}
+use mathlib.Core.Bool.{Bool, true, false, cond}
+use lib.Dec.{eqb}
+use lib.Bits.{bitAnd, bitOr}
+use Rattle.isa.specs.Machine.{bit, withBit, reg, withReg, withFile, withControl, interruptMask}
+use Rattle.isa.specs.Flags.{complement}
+use Rattle.isa.specs.declared.machine.Control.{Control}
+use Rattle.isa.specs.declared.machine.Core.{Core}
+use Rattle.isa.specs.declared.machine.Register.the-variants.{Sts, A}
+use Rattle.isa.specs.declared.instruction.Readable.{Readable}
+use Rattle.isa.specs.declared.instruction.Readable.the-variants.{Status, Pgs, Pvl, Iic, Pid, Pie, Actl}
+use Rattle.isa.specs.declared.instruction.Writable.{Writable}
+use Rattle.isa.specs.declared.instruction.Writable.the-variants.{Status as ToStatus, Iie as ToIie, Pid as ToPid, Pie as ToPie}
+use Rattle.isa.specs.declared.instruction.Maskable.{Maskable}
+use Rattle.isa.specs.declared.instruction.Maskable.the-variants.{Status as InStatus, Pid as InPid, Pie as InPie}
+use Rattle.isa.specs.declared.instruction.ControlOp.{ControlOp}
+use Rattle.isa.specs.declared.instruction.ControlOp.the-variants.{Ion, Iof, Pon, Pof, Pion, Piof, Wait, Tra, Trr, Mcl, Mst}
+
+-- the highest bit of w that is set, among bits n to 1; 0 if none is
+abbrev pub highestIn : ℕ → ℕ → ℕ
+highestIn zero w = 0
+highestIn (suc n) w = cond (eqb (bit (suc n) w) 1) (suc n) (highestIn n w)
+
+-- the control words, changed in some places
+abbrev pub withSwitches : Control → ℕ → ℕ → ℕ → Control
+withSwitches k i p h = record {
+  interrupts = i;
+  paging = p;
+  stopped = h;
+  pid = k .pid;
+  pie = k .pie;
+  pvl = k .pvl;
+  iid = k .iid;
+  iie = k .iie;
+  pgs = k .pgs;
+}
+
+abbrev pub withLevels : Control → ℕ → ℕ → ℕ → Control
+withLevels k d e v = record {
+  interrupts = k .interrupts;
+  paging = k .paging;
+  stopped = k .stopped;
+  pid = d;
+  pie = e;
+  pvl = v;
+  iid = k .iid;
+  iie = k .iie;
+  pgs = k .pgs;
+}
+
+abbrev pub withInternal : Control → ℕ → ℕ → ℕ → Control
+withInternal k d e g = record {
+  interrupts = k .interrupts;
+  paging = k .paging;
+  stopped = k .stopped;
+  pid = k .pid;
+  pie = k .pie;
+  pvl = k .pvl;
+  iid = d;
+  iie = e;
+  pgs = g;
+}
+
+abbrev pub withPid : Control → ℕ → Control
+withPid k d = withLevels k d (k .pie) (k .pvl)
+
+abbrev pub withPie : Control → ℕ → Control
+withPie k e = withLevels k (k .pid) e (k .pvl)
+
+-- "WAIT stops the machine with interrupts off; with them on it clears the running level's PID bit (level 0: no effect)."
+abbrev pub waited : ℕ → Control → Control
+waited l k =
+    cond (eqb (k .interrupts) 1) (cond (eqb l 0) k (withPid k (withBit l 0 (k .pid))))
+    (withSwitches k (k .interrupts) (k .paging) 1)
+
+-- the full status word: bit 15 interrupts on, 14 paging on, 13 zero, 12 one, 11-8 the level, 7-0 the flags
+abbrev pub statusWord : ℕ → Control → ℕ → ℕ
+statusWord l k sts = k .interrupts * 32768 + k .paging * 16384 + 4096 + l * 256 + sts
+
+-- TRA: what A gets at level l
+abbrev pub internalWord : ℕ → Core → Readable → ℕ
+internalWord l c Status = statusWord l (c .control) (reg (c .file) Sts)
+internalWord l c Pgs = c .control .pgs
+internalWord l c Pvl = 0o153602 + c .control .pvl * 8
+internalWord l c Iic = highestIn 15 (c .control .iid)
+internalWord l c Pid = c .control .pid
+internalWord l c Pie = c .control .pie
+internalWord l c Actl = 2 ^ l
+
+-- "TRA IIC gives the highest detected number, 0 if none, and clears IID."
+abbrev pub afterReading : Control → Readable → Control
+afterReading k Status = k
+afterReading k Pgs = k
+afterReading k Pvl = k
+afterReading k Iic = withInternal k 0 (k .iie) (k .pgs)
+afterReading k Pid = k
+afterReading k Pie = k
+afterReading k Actl = k
+
+abbrev pub read : ℕ → Core → Readable → Core
+read l c r = withControl (withFile c (withReg (c .file) A (internalWord l c r))) (afterReading (c .control) r)
+
+-- the running level's STS, of which bits 7-0 alone are kept
+abbrev pub withSts : Core → ℕ → Core
+withSts c w = withFile c (withReg (c .file) Sts (w % 256))
+
+-- TRR of A
+abbrev pub written : Core → Writable → Core
+written c ToStatus = withSts c (reg (c .file) A)
+written c ToIie = withControl c (withInternal (c .control) (c .control .iid) (interruptMask (reg (c .file) A)) (c .control .pgs))
+written c ToPid = withControl c (withPid (c .control) (reg (c .file) A))
+written c ToPie = withControl c (withPie (c .control) (reg (c .file) A))
+
+-- MCL clears the bits that are set in A, MST sets them
+abbrev pub cleared : Core → Maskable → Core
+cleared c InStatus = withSts c (bitAnd (reg (c .file) Sts) (complement (reg (c .file) A)))
+cleared c InPid = withControl c (withPid (c .control) (bitAnd (c .control .pid) (complement (reg (c .file) A))))
+cleared c InPie = withControl c (withPie (c .control) (bitAnd (c .control .pie) (complement (reg (c .file) A))))
+
+abbrev pub masked : Core → Maskable → Core
+masked c InStatus = withSts c (bitOr (reg (c .file) Sts) (reg (c .file) A))
+masked c InPid = withControl c (withPid (c .control) (bitOr (c .control .pid) (reg (c .file) A)))
+masked c InPie = withControl c (withPie (c .control) (bitOr (c .control .pie) (reg (c .file) A)))
+
+-- interrupts and paging on or off
+abbrev pub switched : Core → ℕ → ℕ → Core
+switched c i p = withControl c (withSwitches (c .control) i p (c .control .stopped))
+
+-- the core c at level l, of which P is one further, after the instruction
+abbrev pub controlled : ℕ → Core → ControlOp → Core
+controlled l c Ion = switched c 1 (c .control .paging)
+controlled l c Iof = switched c 0 (c .control .paging)
+controlled l c Pon = switched c (c .control .interrupts) 1
+controlled l c Pof = switched c (c .control .interrupts) 0
+controlled l c Pion = switched c 1 1
+controlled l c Piof = switched c 0 0
+controlled l c Wait = withControl c (waited l (c .control))
+controlled l c (Tra r) = read l c r
+controlled l c (Trr r) = written c r
+controlled l c (Mcl r) = cleared c r
+controlled l c (Mst r) = masked c r

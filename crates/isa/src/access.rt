@@ -1,0 +1,36 @@
+// An access to memory, what it is judged by, and what comes of it.
+// The kinds of access; Indirect is the access for an indirect word.
+pub enum Kind {
+    Fetch,
+    Read,
+    Write,
+    Indirect,
+}
+
+// One access: its kind, whether it goes by the alternate rule, and the address.
+pub struct Access {
+    pub kind: Kind,
+    pub alternate: bool,
+    pub address: u16,
+}
+
+// What an access is judged by: paging, the user's ring, and the tables that the normal and the alternate rule name.
+pub struct Rights {
+    pub paging: bool,
+    pub ring: u16,
+    pub normal: u16,
+    pub alternate: u16,
+}
+
+// What comes of an access: none was made; a place in memory, or in the page tables, to load from or to store to;
+// or the fault: a missing permit or a ring too low, or no permit at all, each with the paging status; or a page beyond the memory.
+pub enum Translation {
+    NoAccess,
+    Load(usize),
+    Store(usize),
+    LoadTable(usize),
+    StoreTable(usize),
+    Protection(u16),
+    PageFault(u16),
+    OutOfRange,
+}

@@ -1,0 +1,84 @@
+// What the machine keeps: registers, control words, and the parts that the engine keeps apart.
+ghost use mathlib.Core.Path.{_≡_};
+ghost use Prim.Native.Nat.{_<_};
+ghost use Rattle.isa.specs.Machine.{number, reg, withReg};
+
+// The registers of a level, in the order of their numbers 0 to 7.
+pub enum Register {
+    Sts,
+    D,
+    P,
+    B,
+    L,
+    A,
+    T,
+    X,
+}
+
+impl Register {
+    pub fn index(self) -> usize
+        ensures { λ r. ⌜ r ≡ number self ⌝ }
+        ensures { λ r. ⌜ r < 8 ⌝ }
+    {
+        match self {
+            Register::Sts => 0,
+            Register::D => 1,
+            Register::P => 2,
+            Register::B => 3,
+            Register::L => 4,
+            Register::A => 5,
+            Register::T => 6,
+            Register::X => 7,
+        }
+    }
+}
+
+// A level's registers are one file, and a write changes one place of it.
+pub struct File {
+    pub words: [u16; 8],
+}
+
+impl File {
+    pub fn get(self, r: Register) -> u16
+        ensures { λ v. ⌜ v ≡ reg self r ⌝ }
+    {
+        let n = r.index();
+        self.words[n]
+    }
+
+    pub fn with(mut self, r: Register, v: u16) -> File
+        ensures { λ f. ⌜ f ≡ withReg self r v ⌝ }
+    {
+        let n = r.index();
+        self.words[n] = v;
+        self
+    }
+}
+
+// The control words 1 to 9. The level (0) and the PCRs (10 to 25) stand beside them.
+pub struct Control {
+    pub interrupts: u16,
+    pub paging: u16,
+    pub stopped: u16,
+    pub pid: u16,
+    pub pie: u16,
+    pub pvl: u16,
+    pub iid: u16,
+    pub iie: u16,
+    pub pgs: u16,
+}
+
+// The machine as callers hand it in and get it back: register n of a level is word 8 * level + n.
+pub struct State {
+    pub regs: [u16; 128],
+    pub level: u16,
+    pub control: Control,
+    pub pcr: [u16; 16],
+}
+
+// What an instruction of the running level works on: the level's registers, its PCR, and the control words 1 to 9.
+pub struct Core {
+    pub file: File,
+    pub pcr: u16,
+    pub control: Control,
+}
