@@ -22,15 +22,19 @@ abbrev pub someBelow : ℕ → (ℕ → Bool) → Bool
 someBelow zero f = false
 someBelow (suc n) f = f n || someBelow n f
 
--- "no entry of the two tables permits to the ring": some entry of the tables a and b does
-unfoldable pub permitted : List ℕ → ℕ → ℕ → ℕ → ℕ → Bool
-permitted t a b ring page =
-    someBelow 64 (λ v. permits (entryAt t (a * 64 + v)) ring page) || someBelow 64 (λ v. permits (entryAt t (b * 64 + v)) ring page)
+-- some entry of the tables a and b passes the test
+abbrev pub someEntry : (Entry → Bool) → List ℕ → ℕ → Bool
+someEntry f t table = someBelow 64 (λ v. f (entryAt t (table * 64 + v)))
 
-unfoldable pub permittedWriting : List ℕ → ℕ → ℕ → ℕ → ℕ → Bool
-permittedWriting t a b ring page =
-    someBelow 64 (λ v. permitsWriting (entryAt t (a * 64 + v)) ring page)
-    || someBelow 64 (λ v. permitsWriting (entryAt t (b * 64 + v)) ring page)
+unfoldable pub inEither : (Entry → Bool) → List ℕ → ℕ → ℕ → Bool
+inEither f t a b = someEntry f t a || someEntry f t b
+
+-- "pages that no entry of the two tables permits to the ring": some entry does
+abbrev pub permitted : List ℕ → ℕ → ℕ → ℕ → ℕ → Bool
+permitted t a b ring page = inEither (λ e. permits e ring page) t a b
+
+abbrev pub permittedWriting : List ℕ → ℕ → ℕ → ℕ → ℕ → Bool
+permittedWriting t a b ring page = inEither (λ e. permitsWriting e ring page) t a b
 
 -- "A start's level is control word 0, its ring bits 1-0 of that level's PCR, its two tables the normal and the alternate one named
 -- there (they may be one)." A page that is permitted from the start s with the tables t, and one permitted for writing.
@@ -59,3 +63,11 @@ differingBelow (suc k) m n = flagOf (differs m n k) + differingBelow k m n
 
 abbrev pub differingWords : List ℕ → List ℕ → ℕ
 differingWords m n = differingBelow (length m) m n
+
+-- An entry that differs from another in its marks alone.
+pub record MarksAlone (e f : Entry) : Type 0 where
+  pub write : e .write ≡ f .write
+  pub read : e .read ≡ f .read
+  pub fetch : e .fetch ≡ f .fetch
+  pub ring : e .ring ≡ f .ring
+  pub page : e .page ≡ f .page

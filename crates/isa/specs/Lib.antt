@@ -11,3 +11,4 @@ pub mod Run
 pub mod Images
 pub mod Answers
 pub mod Isolation
+pub mod Cases

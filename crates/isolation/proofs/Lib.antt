@@ -1,0 +1,5 @@
+pub mod Accesses
+pub mod Memories
+pub mod Stages
+pub mod Runs
+pub mod Theorem

@@ -1,0 +1,134 @@
+-- Demand 3: the theorem.
+-- Assumes nothing.
+use Prim.Native.Nat.{ℕ, zero, suc, _+_, _/_, _≤_}
+use mathlib.Core.Path.{_≡_, refl, sym, ap, subst, _∙_}
+use mathlib.Core.Bool.{Bool, true, false, cond, not}
+use mathlib.Core.List.{List}
+use native.Mathlib.Nat.{le-refl}
+use lib.ListN.{getD, length}
+use lib.Dec.{eqb}
+use borrow.Author.Tests.{eq-eqb}
+use Rattle.isa.specs.Machine.{flagOf, sizesFit, memorySize, inRange, coreOf, ringOf, normalTableOf, alternateTableOf}
+use Rattle.isa.specs.Pages.{entryAt}
+use Rattle.isa.specs.Run.{Run, runFrom}
+use Rattle.isa.specs.Answers.{RunCall, stateAnswer, runCall, runCallBy, ranCall}
+use Rattle.isa.specs.Isolation.{startPcr, reachable, writable, differs, differingBelow, differingWords}
+use Rattle.isa.specs.declared.machine.State.{State}
+use Rattle.isa.specs.declared.answer.Refusal.{Refusal}
+use Rattle.isa.specs.declared.answer.Answer.{Answer}
+use Rattle.isa.specs.declared.answer.Answer.the-variants.{Done, Refused}
+use Rattle.isa.specs.declared.answer.RunAnswer.the-variants.{Ran, Refused as RunRefused}
+use Rattle.isolation.specs.Statement.{Starts, Confined, Isolated, RefusedAlike}
+use Rattle.isa.proofs.Tests.{no-both}
+use Rattle.isa.proofs.Marks.{same-entry}
+use Rattle.isa.proofs.Permits.{writing-permitted}
+use Rattle.isolation.proofs.Memories.{Agree, Kept, kept-refl}
+use Rattle.isolation.proofs.Runs.{EvenRun, run-even}
+
+-- the answer to a start depends on memory's size alone
+answer-same : (s : State) (t m n : List ℕ) → length m ≡ length n → stateAnswer s m t ≡ stateAnswer s n t
+unfolding stateAnswer sizesFit
+answer-same s t m n h = rw h
+
+-- ---- differing words
+
+-- two words that are equal do not differ
+equal-words : (m n : List ℕ) (k : ℕ) → getD m k 0 ≡ getD n k 0 → differs m n k ≡ false
+equal-words m n k e = rw (eq-eqb (getD m k 0) (getD n k 0) e)
+
+-- the count goes by the words that differ
+count-same : (m n m′ n′ : List ℕ) → ((k : ℕ) → differs m′ n′ k ≡ differs m n k) → (k : ℕ) → differingBelow k m′ n′ ≡ differingBelow k m n
+count-same m n m′ n′ h zero = refl
+count-same m n m′ n′ h (suc k) = rw (h k, count-same m n m′ n′ h k)
+
+module _ (s : State) (t : List ℕ) where
+  abbrev AgreeFrom : List ℕ → List ℕ → Type 0
+  AgreeFrom m n = Agree t (normalTableOf (startPcr s)) (alternateTableOf (startPcr s)) (ringOf (startPcr s)) m n
+
+  abbrev KeptFrom : List ℕ → List ℕ → Type 0
+  KeptFrom m n = Kept t (normalTableOf (startPcr s)) (alternateTableOf (startPcr s)) (ringOf (startPcr s)) m n
+
+  abbrev EvenFrom : List ℕ → List ℕ → Run → Run → Type 0
+  EvenFrom m n r q = EvenRun t (normalTableOf (startPcr s)) (alternateTableOf (startPcr s)) (ringOf (startPcr s)) m n r q
+
+  -- a page that is not permitted is not permitted for writing
+  foreign-unwritten : (page : ℕ) → reachable s t page ≡ false → writable s t page ≡ false
+  foreign-unwritten page f = go (writable s t page) refl
+    where
+      go : (x : Bool) → writable s t page ≡ x → writable s t page ≡ false
+      go true q =
+          absurd
+          (no-both (sym f ∙ writing-permitted t (normalTableOf (startPcr s)) (alternateTableOf (startPcr s)) (ringOf (startPcr s)) page q))
+      go false q = q
+
+  -- from m and n to m′ and n′: a word of a foreign page is as it was in each, and of any other page is the same in both
+  module _ (m n m′ n′ : List ℕ) (h : AgreeFrom m n) (h′ : AgreeFrom m′ n′) (l : KeptFrom m m′) (r : KeptFrom n n′) where
+    both-kept : (k : ℕ) → reachable s t (k / 1024) ≡ false → (getD m′ k 0 ≡ getD m k 0) × (getD n′ k 0 ≡ getD n k 0)
+    both-kept k f = (l .same k (foreign-unwritten (k / 1024) f), r .same k (foreign-unwritten (k / 1024) f))
+
+    differ-kept : (k : ℕ) → differs m n k ≡ true → (getD m′ k 0 ≡ getD m k 0) × (getD n′ k 0 ≡ getD n k 0)
+    differ-kept k d = go (reachable s t (k / 1024)) refl
+      where
+        go : (x : Bool) → reachable s t (k / 1024) ≡ x → (getD m′ k 0 ≡ getD m k 0) × (getD n′ k 0 ≡ getD n k 0)
+        go true q = absurd (no-both (sym (equal-words m n k (h .same k q)) ∙ d))
+        go false q = both-kept k q
+
+    differ-same : (k : ℕ) → differs m′ n′ k ≡ differs m n k
+    differ-same k = go (reachable s t (k / 1024)) refl
+      where
+        go : (x : Bool) → reachable s t (k / 1024) ≡ x → differs m′ n′ k ≡ differs m n k
+        go true q = equal-words m′ n′ k (h′ .same k q) ∙ sym (equal-words m n k (h .same k q))
+        go false q = let e = both-kept k q in rw (e .0, e .1)
+
+  -- ---- the conclusions
+
+  even-isolated : (m n : List ℕ) (r q : Run) → AgreeFrom m n → EvenFrom m n r q → Isolated s t m n (ranCall r) (ranCall q)
+  even-isolated m n r q h e =
+      let d = differ-same m n (r .memory) (q .memory) h (e .agree) (e .left) (e .right) in
+      record {
+        answer = rw (e .steps, e .reason);
+        state = e .state;
+        tables = e .tables;
+        differing = differ-kept m n (r .memory) (q .memory) h (e .agree) (e .left) (e .right);
+        no-other = λ k f. d k ∙ f;
+        count = ap (λ (x : ℕ). differingBelow x (r .memory) (q .memory)) (e .left .size) ∙ count-same m n (r .memory) (q .memory) d (length m);
+        left = record { size = e .left .size; unwritten = e .left .same; marks = e .marks };
+        right = record { size = e .right .size; unwritten = e .right .same; marks = rw (← e .tables) (e .marks) };
+      }
+
+  -- a refused call leaves everything as it came
+  refused-isolated : (m n : List ℕ) (x : Refusal)
+      → Isolated s t m n (record { answer = RunRefused x; state = s; memory = m; tables = t }) (record { answer = RunRefused x; state = s; memory = n; tables = t })
+  refused-isolated m n x = record {
+    answer = refl;
+    state = refl;
+    tables = refl;
+    differing = λ k f. (refl, refl);
+    no-other = λ k f. f;
+    count = refl;
+    left = record { size = refl; unwritten = λ k f. refl; marks = λ i. same-entry (entryAt t i) };
+    right = record { size = refl; unwritten = λ k f. refl; marks = λ i. same-entry (entryAt t i) };
+  }
+
+-- THE THEOREM: run to the first interrupt from two starts that are alike, for any number of steps, 0 included.
+pub isolation : (c : ℕ) (s : State) (t m n : List ℕ) → Starts s t m n → Isolated s t m n (runCall true c s m t) (runCall true c s n t)
+unfolding runCall
+isolation c s t m n h = rw (← answer-same s t m n (h .alike .size)) (go (stateAnswer s m t))
+  where
+    agree : AgreeFrom s t m n
+    agree = record { size = h .alike .size; same = h .alike .same }
+
+    go : (x : Answer) → Isolated s t m n (runCallBy x true c s m t) (runCallBy x true c s n t)
+    go Done =
+        even-isolated s t m n (runFrom true c 0 s m t) (runFrom true c 0 s n t) agree
+        (run-even t (normalTableOf (startPcr s)) (alternateTableOf (startPcr s)) (ringOf (startPcr s)) (h .ring-low) c 0 s m n t
+        (record { paging-on = h .paging-on; ring-low = le-refl _; normal = refl; alternate = refl })
+        agree
+        (λ i. same-entry (entryAt t i)))
+    go (Refused x) = refused-isolated s t m n x
+
+-- Two starts that are refused, with equally much memory and equal in all but memory's words, get the same refusal and stay.
+pub refused-alike : (c : ℕ) (s : State) (t m n : List ℕ) (x : Refusal) → length m ≡ length n → stateAnswer s m t ≡ Refused x
+    → RefusedAlike s t m n x (runCall true c s m t) (runCall true c s n t)
+unfolding runCall
+refused-alike c s t m n x h e = record { left = rw e; right = rw (← answer-same s t m n h, e) }
