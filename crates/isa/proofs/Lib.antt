@@ -6,3 +6,5 @@ pub mod Shifts
 pub mod Window
 pub mod Marks
 pub mod Permits
+pub mod Runs
+pub mod Examples

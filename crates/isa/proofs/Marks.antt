@@ -77,4 +77,3 @@ mark-keeps t t₀ i k h j = then-entry (entryAt (set t i v) j) (entryAt t j) (en
     go (no q) d = subst (λ (x : ℕ). MarksAlone (entryOf x) (entryAt t j)) (sym (getD-set-other t i j v 0 q)) (same-entry (entryAt t j))
     go (yes q) (yes l) = subst (λ (x : ℕ). MarksAlone (entryAt (set t i v) x) (entryAt t x)) (sym q) (at-slot (getD (set t i v) i 0) (getD-set-same t i v 0 l))
     go (yes q) (no l) = subst (λ (x : List ℕ). MarksAlone (entryAt x j) (entryAt t j)) (sym (set-out t i v (omega arith))) (same-entry (entryAt t j))
-

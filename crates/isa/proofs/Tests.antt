@@ -22,7 +22,6 @@ pub and-left : (x y : Bool) → (x && y) ≡ true → x ≡ true
 and-left true y h = refl
 and-left false y h = h
 
-
 pub and-right : (x y : Bool) → (x && y) ≡ true → y ≡ true
 and-right true y h = h
 and-right false y h = absurd (no-both h)

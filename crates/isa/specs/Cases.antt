@@ -105,15 +105,15 @@ cases =
     ∷ (faultSeen (step (start 0 0 0 0 1 1) (memoryOf 0o045001 0o002000) (tablesOf 0o060000 0o163000)), 2 ∷ 1 ∷ 0o064000 ∷ 0o163000 ∷ [])
     ∷ []
 
--- the two columns
-abbrev pub left : List (List ℕ × List ℕ) → List (List ℕ)
-left [] = []
-left (r ∷ rs) = r .0 ∷ left rs
+-- the columns of a table: what the definitions give, and what is stated
+abbrev pub given : {Value : Type 0} → List (Value × Value) → List Value
+given [] = []
+given (r ∷ rs) = r .0 ∷ given rs
 
-abbrev pub right : List (List ℕ × List ℕ) → List (List ℕ)
-right [] = []
-right (r ∷ rs) = r .1 ∷ right rs
+abbrev pub stated : {Value : Type 0} → List (Value × Value) → List Value
+stated [] = []
+stated (r ∷ rs) = r .1 ∷ stated rs
 
-pub all-hold : left cases ≡ right cases
+pub all-hold : given cases ≡ stated cases
 unfolding cases fileAt putFile adder withOverflow withSum productOverflow divisionFails leftOnce rightOnce byEnds decode traOf trrOf maskedOf switchOf srbOf lrbOf shiftOf firstAddress divided withinMemory judged inWindow translate marked lowered step interrupted faulted finished operandsTested operands indirectTested userStage examined deposited instructionStage fetched stepIn putOther blockStored blockLoaded farStage settled changeDue levelChanged
 all-hold = refl

@@ -64,18 +64,18 @@ module _ (t₀ : List ℕ) (a b ρ : ℕ) where
   -- what an entry permits to a ring not above, its entry at the start permits to the ring of the start
   module _ (table v : ℕ) (e : Entry) (ring : ℕ) (on : (table ≡ a) ⊎ (table ≡ b)) (low : v < 64)
       (h : MarksAlone e (entryAt t₀ (table * 64 + v))) (l : ring ≤ ρ)
-      where
-    by-allowed : (x : Translation) → By e ring x → Allowed x
-    by-allowed NoAccess q = tt
-    by-allowed (Load p) q =
-        either (λ (x : Entry). permits x ρ (p / 1024)) t₀ a b table v on low (permits-later e (entryAt t₀ (table * 64 + v)) ring ρ (p / 1024) h l q)
-    by-allowed (Store p) q =
-        either (λ (x : Entry). permitsWriting x ρ (p / 1024)) t₀ a b table v on low (writing-later e (entryAt t₀ (table * 64 + v)) ring ρ (p / 1024) h l q)
-    by-allowed (LoadTable i) q = q
-    by-allowed (StoreTable i) q = q
-    by-allowed (Protection g) q = tt
-    by-allowed (PageFault g) q = tt
-    by-allowed OutOfRange q = tt
+    where
+      by-allowed : (x : Translation) → By e ring x → Allowed x
+      by-allowed NoAccess q = tt
+      by-allowed (Load p) q =
+          either (λ (x : Entry). permits x ρ (p / 1024)) t₀ a b table v on low (permits-later e (entryAt t₀ (table * 64 + v)) ring ρ (p / 1024) h l q)
+      by-allowed (Store p) q =
+          either (λ (x : Entry). permitsWriting x ρ (p / 1024)) t₀ a b table v on low (writing-later e (entryAt t₀ (table * 64 + v)) ring ρ (p / 1024) h l q)
+      by-allowed (LoadTable i) q = q
+      by-allowed (StoreTable i) q = q
+      by-allowed (Protection g) q = tt
+      by-allowed (PageFault g) q = tt
+      by-allowed OutOfRange q = tt
 
   -- one access
   module _ (t : List ℕ) (words : ℕ) (r : Rights) (ρ≤1 : ρ ≤ 1) (hm : Marked t t₀) (hr : HeldRights r) where

@@ -1,0 +1,98 @@
+-- What load finds in an image that write gave: four full entries, and the bodies one after the other.
+-- Assumes nothing.
+use Prim.Native.Nat.{ℕ, zero, suc, _+_, _*_, _/_, _%_, _≤_}
+use mathlib.Core.Path.{_≡_, refl, sym, ap, subst, _∙_}
+use mathlib.Core.Bool.{Bool, true, false, cond}
+use mathlib.Core.List.{List, [], _∷_, _++_, append-nil}
+use native.Mathlib.Omega.{arith}
+use native.Mathlib.Nat.{div-add-mod'}
+use lib.ListN.{getD, take, drop, length, replicate, length-append, length-replicate, drop-of-length-le}
+use lib.Seq.{paste, take-at, drop-at, take-all}
+use Rattle.isa.specs.Machine.{controlWords}
+use Rattle.isa.specs.Images.{Entry, entryCount, contents, bodies, placed, loadedWords, imageOf}
+use Rattle.isa.specs.declared.machine.State.{State}
+
+-- a full entry of a kind
+abbrev pub full : ℕ → ℕ → Entry
+full k n = record { kind = k; start = 0; count = n }
+
+abbrev pub four : ℕ → List Entry
+four n = full 1 n ∷ full 2 128 ∷ full 3 26 ∷ full 4 256 ∷ []
+
+-- a body that fills its target replaces it
+fill : (n : ℕ) (target xs rest : List ℕ) → length target ≡ n → length xs ≡ n → paste target 0 (xs ++ rest) n ≡ xs
+fill n target xs rest h l =
+    ap (λ (x : List ℕ). x ++ drop (0 + n) target) (take-at xs rest n l)
+    ∙ ap (λ (x : List ℕ). xs ++ x) (drop-of-length-le target q)
+    ∙ append-nil xs
+  where
+    q : length target ≤ 0 + n
+    q = omega arith
+
+module _ (s : State) (m t : List ℕ) where
+  pub contents-four : contents (imageOf s m t) ≡ four (length m)
+  unfolding imageOf
+  contents-four = ap four (div-add-mod' (length m) 65536)
+
+  pub entry-count : entryCount (imageOf s m t) ≡ 4
+  unfolding imageOf
+  entry-count = refl
+
+  -- registers, control words and tables: what follows the memory
+  abbrev pub afterMemory : List ℕ
+  afterMemory = s .regs ++ (controlWords s ++ t)
+
+  pub bodies-all : bodies (imageOf s m t) ≡ m ++ afterMemory
+  unfolding imageOf
+  bodies-all = refl
+
+  module _ (hr : length (s .regs) ≡ 128) (hp : length (s .pcr) ≡ 16) (ht : length t ≡ 256) where
+    control-length : length (controlWords s) ≡ 26
+    control-length = omega (arith, hp)
+
+    pub bodies-length : length (m ++ afterMemory) ≡ length m + 410
+    bodies-length =
+        length-append m afterMemory
+        ∙ ap (λ (x : ℕ). length m + x) (length-append (s .regs) (controlWords s ++ t))
+        ∙ ap (λ (x : ℕ). length m + (length (s .regs) + x)) (length-append (controlWords s) t)
+        ∙ e
+      where
+        e : length m + (length (s .regs) + (length (controlWords s) + length t)) ≡ length m + 410
+        e = omega (arith, hr, control-length, ht)
+
+    -- what the entries of the four leave of a target of each kind
+    by-four : (k size : ℕ) → loadedWords k size (imageOf s m t) ≡ placed k (four (length m)) (m ++ afterMemory) (replicate size 0)
+    unfolding loadedWords
+    by-four k size =
+        ap (λ (es : List Entry). placed k es (bodies (imageOf s m t)) (replicate size 0)) contents-four
+        ∙ ap (λ (b : List ℕ). placed k (four (length m)) b (replicate size 0)) bodies-all
+
+    dropped-memory : drop (length m) (m ++ afterMemory) ≡ afterMemory
+    dropped-memory = drop-at m afterMemory (length m) refl
+
+    dropped-registers : drop 128 (drop (length m) (m ++ afterMemory)) ≡ controlWords s ++ t
+    dropped-registers = ap (drop 128) dropped-memory ∙ drop-at (s .regs) (controlWords s ++ t) 128 hr
+
+    dropped-control : drop 26 (drop 128 (drop (length m) (m ++ afterMemory))) ≡ t
+    dropped-control = ap (drop 26) dropped-registers ∙ drop-at (controlWords s) t 26 control-length
+
+    pub loaded-memory : loadedWords 1 (length m) (imageOf s m t) ≡ m
+    loaded-memory = by-four 1 (length m) ∙ fill (length m) (replicate (length m) 0) m afterMemory (length-replicate (length m) 0) refl
+
+    pub loaded-registers : loadedWords 2 128 (imageOf s m t) ≡ s .regs
+    loaded-registers =
+        by-four 2 128
+        ∙ ap (λ (b : List ℕ). paste (replicate 128 0) 0 b 128) dropped-memory
+        ∙ fill 128 (replicate 128 0) (s .regs) (controlWords s ++ t) (length-replicate {A = ℕ} 128 0) hr
+
+    pub loaded-control : loadedWords 3 26 (imageOf s m t) ≡ controlWords s
+    loaded-control =
+        by-four 3 26
+        ∙ ap (λ (b : List ℕ). paste (replicate 26 0) 0 b 26) dropped-registers
+        ∙ fill 26 (replicate 26 0) (controlWords s) t (length-replicate {A = ℕ} 26 0) control-length
+
+    pub loaded-tables : loadedWords 4 256 (imageOf s m t) ≡ t
+    loaded-tables =
+        by-four 4 256
+        ∙ ap (λ (b : List ℕ). paste (replicate 256 0) 0 b 256) (dropped-control ∙ sym (append-nil t))
+        ∙ fill 256 (replicate 256 0) t [] (length-replicate {A = ℕ} 256 0) ht

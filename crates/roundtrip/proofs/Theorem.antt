@@ -1,0 +1,124 @@
+-- Write, then load: the same machine. And the order of load's refusals.
+-- Assumes nothing.
+use Prim.Native.Nat.{ℕ, zero, suc, _+_, _*_, _/_, _%_, _≤_}
+use mathlib.Core.Path.{_≡_, refl, sym, ap, subst, _∙_}
+use mathlib.Core.Bool.{Bool, true, false, cond, not, _&&_}
+use mathlib.Core.List.{List, [], _∷_, _++_}
+use native.Mathlib.Omega.{arith}
+use native.Mathlib.Nat.{le-refl}
+use lib.ListN.{getD, take, drop, length, length-append}
+use lib.Seq.{take-at}
+use lib.Dec.{ltb, leb, eqb}
+use borrow.Author.Tests.{le-ltb, lt-ltb, le-leb, eq-eqb, eqb-true}
+use Rattle.isa.specs.Machine.{controlWords, stateOf, sizesFit, memorySize, inRange}
+use Rattle.isa.specs.Images.{Entry, contentsFit, contents, bodies, entriesAnswer, meets, sizeOf, namedWords, loadedState, loadedWords, contentsWords, imageOf, imageSize}
+use Rattle.isa.specs.Answers.{LoadCall, loadCall, loadCallBy, loadAnswer, bodiesAnswer, stateAnswer, writeAnswer, writtenOutput}
+use Rattle.isa.specs.declared.machine.State.{State}
+use Rattle.isa.specs.declared.answer.Refusal.{Refusal}
+use Rattle.isa.specs.declared.answer.Answer.{Answer}
+use Rattle.isa.specs.declared.answer.Answer.the-variants.{Done, Refused}
+use Rattle.isa.proofs.Tests.{and-true, and-right}
+use Rattle.roundtrip.specs.Statement.{Machine, Loads, RoundTrip, LoadOrder, Either, machine, refusal}
+use Rattle.roundtrip.proofs.Contents.{four, full, afterMemory, entry-count, contents-four, bodies-all, bodies-length, loaded-memory, loaded-registers, loaded-control, loaded-tables}
+
+-- ---- the order of load's refusals
+
+pub load-order : (i m t : List ℕ) → LoadOrder i m t
+unfolding loadAnswer
+load-order i m t = record {
+  sizes = λ a. rw a;
+  contents-short = λ a b. rw (a, b);
+  entry = λ r a b c. rw (a, b, c);
+  bodies-differ = λ a b c d. rw (a, b, c, d);
+  state = λ a b c d e. rw (a, b, c, d, e);
+  loaded = λ a b c d e. rw (a, b, c, d, e);
+}
+
+pub load-either : (s : State) (i m t : List ℕ) → Either s i m t (loadCall s i m t)
+unfolding loadCall
+load-either s i m t = go (loadAnswer i m t)
+  where
+    go : (x : Answer) → Either s i m t (loadCallBy x s i m t)
+    go Done = machine refl
+    go (Refused x) = refusal x refl
+
+-- ---- the four entries
+
+-- four full entries of different kinds are refused by none of the tests
+four-pass : (words : ℕ) → entriesAnswer words [] (four words) ≡ Done
+unfolding meets
+four-pass words = rw (le-ltb words (0 + words) q)
+  where
+    q : 0 + words ≤ words
+    q = omega arith
+
+module _ (s : State) (m t : List ℕ) (h : Machine s m t) where
+  tables-length : length t ≡ 256
+  unfolding sizesFit
+  tables-length = eqb-true (length t) 256 (and-right (memorySize (length m)) (eqb (length t) 256) (h .sizes))
+
+  image-length : length (imageOf s m t) ≡ length m + 431
+  unfolding imageOf
+  image-length = length-append (contentsWords (length m)) (m ++ afterMemory s m t) ∙ e
+    where
+      e : 21 + length (m ++ afterMemory s m t) ≡ length m + 431
+      e = omega (arith, bodies-length s m t (h .typed .regs-length) (h .typed .pcr-length) tables-length)
+
+  image-fits : contentsFit (imageOf s m t) ≡ true
+  unfolding contentsFit
+  image-fits =
+      rw (entry-count s m t, image-length)
+      (and-true (ltb 0 (length m + 431) && true) (leb 21 (length m + 431)) (and-true (ltb 0 (length m + 431)) true (lt-ltb 0 (length m + 431) (omega arith)) refl)
+      (le-leb 21 (length m + 431) (omega arith)))
+
+  loaded-state : loadedState (imageOf s m t) ≡ s
+  loaded-state =
+      ap (λ (rs : List ℕ). stateOf rs (loadedWords 3 26 (imageOf s m t))) (loaded-registers s m t (h .typed .regs-length) (h .typed .pcr-length) tables-length)
+      ∙ ap (λ (cs : List ℕ). stateOf (s .regs) cs) (loaded-control s m t (h .typed .regs-length) (h .typed .pcr-length) tables-length)
+
+  named-all : eqb (namedWords (contents (imageOf s m t))) (length (bodies (imageOf s m t))) ≡ true
+  named-all =
+      eq-eqb _ _
+      (ap namedWords (contents-four s m t)
+      ∙ q
+      ∙ sym (ap length (bodies-all s m t) ∙ bodies-length s m t (h .typed .regs-length) (h .typed .pcr-length) tables-length))
+    where
+      q : namedWords (four (length m)) ≡ length m + 410
+      q = omega arith
+
+  -- as much memory as the image has
+  module _ (m₀ t₀ : List ℕ) (hm : length m₀ ≡ length m) (ht : length t₀ ≡ length t) where
+    sizes-same : sizesFit m₀ t₀ ≡ true
+    unfolding sizesFit
+    sizes-same = rw (hm, ht) (h .sizes)
+
+    image-accepted : loadAnswer (imageOf s m t) m₀ t₀ ≡ Done
+    image-accepted =
+        load-order (imageOf s m t) m₀ t₀ .loaded sizes-same image-fits
+        (ap (λ (n : ℕ). entriesAnswer n [] (contents (imageOf s m t))) hm ∙ ap (entriesAnswer (length m) []) (contents-four s m t) ∙ four-pass (length m))
+        named-all
+        (ap inRange loaded-state ∙ h .range)
+
+  image-loads : Loads s m t (imageOf s m t)
+  unfolding loadCall
+  image-loads = record { loads = λ s₀ m₀ t₀ hm ht. rw (image-accepted m₀ t₀ hm ht) (whole m₀ hm) }
+    where
+      whole : (m₀ : List ℕ) → length m₀ ≡ length m
+          → _≡_ {A = LoadCall} (record { answer = Done; state = loadedState (imageOf s m t); memory = loadedWords 1 (length m₀) (imageOf s m t); tables = loadedWords 4 256 (imageOf s m t) })
+          (record { answer = Done; state = s; memory = m; tables = t })
+      whole m₀ hm =
+          rw
+          (loaded-state, hm, loaded-memory s m t (h .typed .regs-length) (h .typed .pcr-length) tables-length, loaded-tables s m t (h .typed .regs-length) (h .typed .pcr-length) tables-length)
+
+  -- what write leaves in an output that is long enough
+  write-done : (out : List ℕ) → imageSize m ≤ length out → writeAnswer s m t out ≡ Done
+  unfolding writeAnswer stateAnswer
+  write-done out l = rw (h .sizes, h .range, le-ltb (length out) (imageSize m) l)
+
+  written-image : (out : List ℕ) → imageSize m ≤ length out → take (imageSize m) (writtenOutput s m t out) ≡ imageOf s m t
+  unfolding writtenOutput
+  written-image out l = rw (write-done out l) (take-at (imageOf s m t) (drop (imageSize m) out) (imageSize m) image-length)
+
+  -- THE THEOREM
+  pub round-trip : RoundTrip s m t
+  round-trip = record { image = image-loads; output = λ out l. rw (written-image out l) image-loads }
