@@ -16,7 +16,7 @@ use Rattle.isa.specs.declared.access.Kind.{Kind}
 use Rattle.isa.specs.declared.access.Kind.the-variants.{Fetch, Read, Write, Indirect}
 use Rattle.isa.specs.declared.access.Translation.{Translation}
 use Rattle.isa.specs.declared.access.Translation.the-variants.{NoAccess, Load, Store, LoadTable, StoreTable, Protection, PageFault, OutOfRange}
-use Rattle.isa.proofs.Tests.{no-both, or-left, or-right, and-true, and-left, and-right}
+use Rattle.isa.proofs.Tests.{no-both, or-left, or-right, and-both, and-left, and-right}
 
 -- some number below n passes where one does
 some-below : (n v : ℕ) (f : ℕ → Bool) → v < n → f v ≡ true → someBelow n f ≡ true
@@ -37,23 +37,23 @@ module _ (e f : Entry) (ring ring₀ page : ℕ) (h : MarksAlone e f) (l : ring 
   pub permits-later : permits e ring page ≡ true → permits f ring₀ page ≡ true
   permits-later q =
       let p = and-parts (somePermit e) (ringAllows e ring) (eqb (e .page) page) q in
-      and-true (somePermit f && ringAllows f ring₀) (eqb (f .page) page)
-      (and-true (somePermit f) (ringAllows f ring₀) (rw (← h .write, ← h .read, ← h .fetch) (p .0))
-      (le-leb (f .ring) ring₀ (rw (← h .ring) (le-trans (leb-true (e .ring) ring (p .1)) l))))
-      (rw (← h .page) (p .2))
+      let some : somePermit f ≡ true = rw (← h .write, ← h .read, ← h .fetch) (p .0) in
+      let low : f .ring ≤ ring₀ = rw (← h .ring) (le-trans (leb-true (e .ring) ring (p .1)) l) in
+      let own : eqb (f .page) page ≡ true = rw (← h .page) (p .2) in
+      and-both (and-both some (le-leb (f .ring) ring₀ low)) own
 
   pub writing-later : permitsWriting e ring page ≡ true → permitsWriting f ring₀ page ≡ true
   writing-later q =
-      and-true (permits f ring₀ page) (f .write) (permits-later (and-left (permits e ring page) (e .write) q))
+      and-both (permits-later (and-left (permits e ring page) (e .write) q))
       (sym (h .write) ∙ and-right (permits e ring page) (e .write) q)
 
--- an entry of either table that passes a test
+-- an entry of either-table table that passes a test
 module _ (f : Entry → Bool) (t : List ℕ) (a b : ℕ) where
-  pub either : (table v : ℕ) → (table ≡ a) ⊎ (table ≡ b) → v < 64 → f (entryAt t (table * 64 + v)) ≡ true → inEither f t a b ≡ true
+  pub either-table : (table v : ℕ) → (table ≡ a) ⊎ (table ≡ b) → v < 64 → f (entryAt t (table * 64 + v)) ≡ true → inEither f t a b ≡ true
   unfolding inEither
-  either table v (inl q) l h =
+  either-table table v (inl q) l h =
       or-left (someEntry f t a) (someEntry f t b) (some-below 64 v (λ (x : ℕ). f (entryAt t (a * 64 + x))) l (rw q at h))
-  either table v (inr q) l h =
+  either-table table v (inr q) l h =
       or-right (someEntry f t a) (someEntry f t b) (some-below 64 v (λ (x : ℕ). f (entryAt t (b * 64 + x))) l (rw q at h))
 
 -- a test that implies another, at one of two, at some number, at some entry
@@ -97,13 +97,13 @@ page-of e va = omega arith
 module _ (e : Entry) (ring va : ℕ) (some : somePermit e ≡ true) (allows : ringAllows e ring ≡ true) where
   own-page : permits e ring (physical e va / 1024) ≡ true
   own-page =
-      and-true (somePermit e && ringAllows e ring) (eqb (e .page) (physical e va / 1024)) (and-true (somePermit e) (ringAllows e ring) some allows)
+      and-both (and-both some allows)
       (eq-eqb (e .page) (physical e va / 1024) (sym (page-of e va)))
 
   kind-by : (k : Kind) → needed e k ≡ true → By e ring (inMemory k (physical e va))
   kind-by Fetch n = own-page
   kind-by Read n = own-page
-  kind-by Write n = and-true (permits e ring (physical e va / 1024)) (e .write) own-page n
+  kind-by Write n = and-both own-page n
   kind-by Indirect n = own-page
 
 pub judged-by : (e : Entry) (slot words ring : ℕ) (k : Kind) (va : ℕ) → By e ring (judged e slot words ring k va)

@@ -8,13 +8,14 @@ use mathlib.Core.Path.{_≡_, refl, sym, ap, _∙_, subst}
 use lib.Pow.{pow-pos, shr-shr, mod-mod-pow, field}
 use lib.Arith.{mod-mul, digits-lt, digits-div, digits-mod}
 use lib.Dec.{lit<}
-use Rattle.isa.specs.Flags.{Shifted, lowerInput, upperInput, leftOnce, rightOnce, leftBy, rightBy}
+use lib.IntN.{ℤ, pos, negsuc}
+use Rattle.isa.specs.Flags.{Shifted, lowerInput, upperInput, leftOnce, rightOnce, leftBy, rightBy, shiftBy}
 use Rattle.isa.specs.declared.instruction.ShiftKind.{ShiftKind}
 use Rattle.isa.specs.declared.instruction.ShiftKind.the-variants.{Arithmetic, Rotational, ZeroInput, LinkInput}
 use Rattle.isa.proofs.Signed.{twice-half}
 
 -- a value of the width w, and M a bit
-pub record Fits (w : ℕ) (s : Shifted) : Type 0 where
+pub record Narrow (w : ℕ) (s : Shifted) : Type 0 where
   pub value : s .value < 2 ^ w
   pub m : s .m < 2
 
@@ -40,9 +41,9 @@ module _ (w : ℕ) (h : 0 < w) where
   half-below v l = div-lt-iff-lt-mul (lit< tt) .1 (subst (λ (x : ℕ). v < x) (twice-half w h) l)
 
   -- a single shift stays in the width
-  pub left-once-fits : (k : ShiftKind) (s : Shifted) → Fits w s → Fits w (leftOnce w k s)
+  pub left-once-narrow : (k : ShiftKind) (s : Shifted) → Narrow w s → Narrow w (leftOnce w k s)
   unfolding leftOnce
-  left-once-fits k s g =
+  left-once-narrow k s g =
       let top = top-bit (s .value) (g .value) in
       let low = lower-bit k (s .value / 2 ^ (w - 1)) (s .m) top (g .m) in
       record {
@@ -50,9 +51,9 @@ module _ (w : ℕ) (h : 0 < w) where
         m = top;
       }
 
-  pub right-once-fits : (k : ShiftKind) (s : Shifted) → Fits w s → Fits w (rightOnce w k s)
+  pub right-once-narrow : (k : ShiftKind) (s : Shifted) → Narrow w s → Narrow w (rightOnce w k s)
   unfolding rightOnce
-  right-once-fits k s g =
+  right-once-narrow k s g =
       let top = top-bit (s .value) (g .value) in
       let low : s .value % 2 < 2 = mod-lt (s .value) (lit< tt) in
       let up = upper-bit k (s .value / 2 ^ (w - 1)) (s .value % 2) (s .m) top low (g .m) in
@@ -62,13 +63,18 @@ module _ (w : ℕ) (h : 0 < w) where
       }
 
   -- so does a shift by any count
-  pub left-fits : (k : ShiftKind) (n : ℕ) (s : Shifted) → Fits w s → Fits w (leftBy w k n s)
-  left-fits k zero s g = g
-  left-fits k (suc n) s g = left-once-fits k (leftBy w k n s) (left-fits k n s g)
+  pub left-narrow : (k : ShiftKind) (n : ℕ) (s : Shifted) → Narrow w s → Narrow w (leftBy w k n s)
+  left-narrow k zero s g = g
+  left-narrow k (suc n) s g = left-once-narrow k (leftBy w k n s) (left-narrow k n s g)
 
-  pub right-fits : (k : ShiftKind) (n : ℕ) (s : Shifted) → Fits w s → Fits w (rightBy w k n s)
-  right-fits k zero s g = g
-  right-fits k (suc n) s g = right-once-fits k (rightBy w k n s) (right-fits k n s g)
+  pub right-narrow : (k : ShiftKind) (n : ℕ) (s : Shifted) → Narrow w s → Narrow w (rightBy w k n s)
+  right-narrow k zero s g = g
+  right-narrow k (suc n) s g = right-once-narrow k (rightBy w k n s) (right-narrow k n s g)
+
+  -- to the left or to the right
+  pub shift-narrow : (k : ShiftKind) (z : ℤ) (s : Shifted) → Narrow w s → Narrow w (shiftBy w k z s)
+  shift-narrow k (pos n) s g = left-narrow k n s g
+  shift-narrow k (negsuc n) s g = right-narrow k (suc n) s g
 
 -- shifting by i + j is shifting by j, then by i, in any width
 pub left-split : (w : ℕ) (k : ShiftKind) (i j : ℕ) (s : Shifted) → leftBy w k (j + i) s ≡ leftBy w k i (leftBy w k j s)

@@ -1,12 +1,24 @@
--- Tests of two cases.
+-- Values that a test decides, and tests that stand together.
 -- Assumes nothing.
 use mathlib.Core.Path.{_≡_, refl, subst}
-use mathlib.Core.Bool.{Bool, true, false, not, _&&_, _||_}
+use mathlib.Core.Bool.{Bool, true, false, cond, not, _&&_, _||_}
 use lib.Dec.{T}
 
+-- one of two values, by a test
+pub either : {A : Type 0} (P : A → Type 0) (b : Bool) {x y : A} → P x → P y → P (cond b x y)
+either P true p q = p
+either P false p q = q
+
+-- .. where the test's outcome is used
+pub decided : {A : Type 0} (P : A → Type 0) (b : Bool) {x y : A} → (b ≡ true → P x) → (b ≡ false → P y) → P (cond b x y)
+decided P true p q = p refl
+decided P false p q = q refl
+
+-- no test has both outcomes
 pub no-both : false ≡ true → ⊥
 no-both e = subst (λ (b : Bool). T (not b)) e tt
 
+-- of two tests, one or both
 pub or-left : (x y : Bool) → x ≡ true → (x || y) ≡ true
 or-left true y h = refl
 or-left false y h = absurd (no-both h)
@@ -15,8 +27,8 @@ pub or-right : (x y : Bool) → y ≡ true → (x || y) ≡ true
 or-right true y h = refl
 or-right false y h = h
 
-pub and-true : (x y : Bool) → x ≡ true → y ≡ true → (x && y) ≡ true
-and-true x y p q = rw (p, q)
+pub and-both : {x y : Bool} → x ≡ true → y ≡ true → (x && y) ≡ true
+and-both h k = simp (h, k)
 
 pub and-left : (x y : Bool) → (x && y) ≡ true → x ≡ true
 and-left true y h = refl

@@ -24,6 +24,8 @@ use Rattle.isa.specs.declared.instruction.ShiftKind.{ShiftKind}
 use Rattle.isa.specs.declared.instruction.ShiftKind.the-variants.{Arithmetic, Rotational, ZeroInput, LinkInput}
 use Rattle.isa.specs.declared.instruction.ShiftTarget.{ShiftTarget}
 use Rattle.isa.specs.declared.instruction.ShiftTarget.the-variants.{Sht, Shd, Sha, Sad}
+use Rattle.isa.specs.declared.instruction.Argument.{Argument}
+use Rattle.isa.specs.declared.instruction.Argument.the-variants.{ArgumentB, ArgumentA, ArgumentT, ArgumentX}
 use Rattle.isa.specs.declared.instruction.BitOp.{BitOp}
 use Rattle.isa.specs.declared.instruction.BitOp.the-variants.{SetZero, SetOne, SetComplement, SetK, SkipZero, SkipOne, SkipComplement, SkipK, Bstc, Bsta, Bldc, Blda, Banc, Band, Borc, Bora}
 use Rattle.isa.specs.declared.instruction.User.{User}
@@ -88,8 +90,8 @@ conditionOf w =
     byEnds ((1, Jap) ∷ (2, Jan) ∷ (3, Jaz) ∷ (4, Jaf) ∷ (5, Jpc) ∷ (6, Jnc) ∷ (7, Jxz) ∷ []) Jxn (w / 256 % 8)
 
 -- the argument instructions by bits 9-8
-abbrev pub argumentOf : ℕ → Register
-argumentOf w = byEnds ((1, B) ∷ (2, A) ∷ (3, T) ∷ []) X (w / 256 % 4)
+abbrev pub argumentOf : ℕ → Argument
+argumentOf w = byEnds ((1, ArgumentB) ∷ (2, ArgumentA) ∷ (3, ArgumentT) ∷ []) ArgumentX (w / 256 % 4)
 
 -- the shift's register by bits 8-7, its kind by bits 10-9; a shift word with bit 6 set is illegal
 abbrev pub targetOf : ℕ → ShiftTarget

@@ -25,6 +25,8 @@ use Rattle.isa.specs.declared.instruction.CarryIn.the-variants.{NoCarry,
 use Rattle.isa.specs.declared.instruction.ShiftKind.{ShiftKind}
 use Rattle.isa.specs.declared.instruction.ShiftTarget.{ShiftTarget}
 use Rattle.isa.specs.declared.instruction.ShiftTarget.the-variants.{Sht, Shd, Sha, Sad}
+use Rattle.isa.specs.declared.instruction.Argument.{Argument}
+use Rattle.isa.specs.declared.instruction.Argument.the-variants.{ArgumentB, ArgumentA, ArgumentT, ArgumentX}
 use Rattle.isa.specs.declared.instruction.BitOp.{BitOp}
 use Rattle.isa.specs.declared.instruction.BitOp.the-variants.{SetZero, SetOne, SetComplement, SetK, SkipZero, SkipOne, SkipComplement, SkipK, Bstc, Bsta, Bldc, Blda, Banc, Band, Borc, Bora}
 use Rattle.isa.specs.declared.instruction.User.{User}
@@ -235,6 +237,13 @@ shifted f Shd k n = shiftIn f D k n
 shifted f Sha k n = shiftIn f A k n
 shifted f Sad k n = shiftDouble f k n
 
+-- the register of an argument instruction
+abbrev pub argumentRegister : Argument → Register
+argumentRegister ArgumentB = B
+argumentRegister ArgumentA = A
+argumentRegister ArgumentT = T
+argumentRegister ArgumentX = X
+
 -- Bit instructions: bit n of register r. "bit instructions never write" bits 8 to 15 of STS.
 abbrev pub putBit : File → Register → ℕ → ℕ → File
 putBit f r n v = cond (isZero r && leb 8 n) f (withReg f r (withBit n v (reg f r)))
@@ -305,8 +314,8 @@ complete (RegisterAdd c cld cm1 s d) f i ws =
     loads (added (next f) d (adder (destinationOperand (next f) cld d) (sourceOperand (next f) cm1 s) (carryIn c f)))
 complete NoOperation f i ws = loads (next f)
 complete (Shift t k n) f i ws = loads (shifted (next f) t k n)
-complete (SetArgument r n) f i ws = loads (withReg (next f) r (bitsOf 16 n))
-complete (AddArgument r n) f i ws = loads (takes (next f) r (adder (reg f r) (bitsOf 16 n) 0))
+complete (SetArgument r n) f i ws = loads (withReg (next f) (argumentRegister r) (bitsOf 16 n))
+complete (AddArgument r n) f i ws = loads (takes (next f) (argumentRegister r) (adder (reg f (argumentRegister r)) (bitsOf 16 n) 0))
 complete (Bit o n r) f i ws = loads (bitDone o (next f) n r)
 complete LoadByte f i ws = loads (withReg (next f) A (loadedByte f (getD ws 0 0)))
 complete StoreByte f i ws = storing (next f) (storedByte f (getD ws 0 0) ∷ [])

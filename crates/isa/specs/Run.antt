@@ -22,8 +22,8 @@ ended w k s m t = record { state = s; steps = k; reason = w; memory = m; tables 
 -- "after each, interrupt: whether that step gave one, in IIE or not (second form only)"; rest is the run after k steps
 abbrev pub afterStep : Bool → (ℕ → State → List ℕ → List ℕ → Run) → ℕ → Turn → Run
 afterStep first rest k r =
-    cond (first && not (eqb (r .gave) 0)) (ended Interrupt (suc k) (r .state) (r .memory) (r .tables))
-    (rest (suc k) (r .state) (r .memory) (r .tables))
+    let on = rest (suc k) (r .state) (r .memory) (r .tables) in
+    cond (first && not (eqb (r .gave) 0)) (ended Interrupt (suc k) (r .state) (r .memory) (r .tables)) on
 
 -- "Before each step it tests stopped, then level (a change is due; second form only), then spent". At most n steps more,
 -- after k; `first` is the second form, to the first interrupt.
@@ -31,8 +31,8 @@ abbrev pub runFrom : Bool → ℕ → ℕ → State → List ℕ → List ℕ �
 runFrom first zero k s m t =
     cond (isStopped s) (ended Stopped k s m t) (cond (first && changeDue s) (ended Level k s m t) (ended Spent k s m t))
 runFrom first (suc n) k s m t =
-    cond (isStopped s) (ended Stopped k s m t)
-    (cond (first && changeDue s) (ended Level k s m t) (afterStep first (runFrom first n) k (step s m t)))
+    let on = afterStep first (runFrom first n) k (step s m t) in
+    cond (isStopped s) (ended Stopped k s m t) (cond (first && changeDue s) (ended Level k s m t) on)
 
 abbrev pub runThrough : ℕ → State → List ℕ → List ℕ → Run
 runThrough n s m t = runFrom false n 0 s m t

@@ -91,6 +91,14 @@ pub enum ShiftTarget {
     Sad,
 }
 
+// The registers of the argument instructions: B, A, T and X.
+pub enum Argument {
+    ArgumentB,
+    ArgumentA,
+    ArgumentT,
+    ArgumentX,
+}
+
 // The bit instructions, in the order of bits 10-7.
 pub enum BitOp {
     SetZero,
@@ -120,8 +128,8 @@ pub enum User {
     RegisterAdd(CarryIn, bool, bool, Register, Register),
     NoOperation,
     Shift(ShiftTarget, ShiftKind, i16),
-    SetArgument(Register, i16),
-    AddArgument(Register, i16),
+    SetArgument(Argument, i16),
+    AddArgument(Argument, i16),
     Bit(BitOp, u16, Register),
     LoadByte,
     StoreByte,

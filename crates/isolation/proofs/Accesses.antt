@@ -22,7 +22,7 @@ use Rattle.isa.specs.declared.access.Translation.{Translation}
 use Rattle.isa.specs.declared.access.Translation.the-variants.{NoAccess, Load, Store, LoadTable, StoreTable, Protection, PageFault, OutOfRange}
 use Rattle.isa.proofs.Window.{no-window}
 use Rattle.isa.proofs.Marks.{Marked, mark-keeps}
-use Rattle.isa.proofs.Permits.{By, judged-by, either, permits-later, writing-later}
+use Rattle.isa.proofs.Permits.{By, judged-by, either-table, permits-later, writing-later}
 
 -- the start: its tables t₀, the normal one a, the alternate one b, and the ring ρ
 module _ (t₀ : List ℕ) (a b ρ : ℕ) where
@@ -68,9 +68,9 @@ module _ (t₀ : List ℕ) (a b ρ : ℕ) where
       by-allowed : (x : Translation) → By e ring x → Allowed x
       by-allowed NoAccess q = tt
       by-allowed (Load p) q =
-          either (λ (x : Entry). permits x ρ (p / 1024)) t₀ a b table v on low (permits-later e (entryAt t₀ (table * 64 + v)) ring ρ (p / 1024) h l q)
+          either-table (λ (x : Entry). permits x ρ (p / 1024)) t₀ a b table v on low (permits-later e (entryAt t₀ (table * 64 + v)) ring ρ (p / 1024) h l q)
       by-allowed (Store p) q =
-          either (λ (x : Entry). permitsWriting x ρ (p / 1024)) t₀ a b table v on low (writing-later e (entryAt t₀ (table * 64 + v)) ring ρ (p / 1024) h l q)
+          either-table (λ (x : Entry). permitsWriting x ρ (p / 1024)) t₀ a b table v on low (writing-later e (entryAt t₀ (table * 64 + v)) ring ρ (p / 1024) h l q)
       by-allowed (LoadTable i) q = q
       by-allowed (StoreTable i) q = q
       by-allowed (Protection g) q = tt

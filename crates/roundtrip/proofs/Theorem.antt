@@ -17,7 +17,7 @@ use Rattle.isa.specs.declared.machine.State.{State}
 use Rattle.isa.specs.declared.answer.Refusal.{Refusal}
 use Rattle.isa.specs.declared.answer.Answer.{Answer}
 use Rattle.isa.specs.declared.answer.Answer.the-variants.{Done, Refused}
-use Rattle.isa.proofs.Tests.{and-true, and-right}
+use Rattle.isa.proofs.Tests.{and-both, and-right}
 use Rattle.roundtrip.specs.Statement.{Machine, Loads, RoundTrip, LoadOrder, Either, machine, refusal}
 use Rattle.roundtrip.proofs.Contents.{four, full, afterMemory, entry-count, contents-four, bodies-all, bodies-length, loaded-memory, loaded-registers, loaded-control, loaded-tables}
 
@@ -68,7 +68,7 @@ module _ (s : State) (m t : List ℕ) (h : Machine s m t) where
   unfolding contentsFit
   image-fits =
       rw (entry-count s m t, image-length)
-      (and-true (ltb 0 (length m + 431) && true) (leb 21 (length m + 431)) (and-true (ltb 0 (length m + 431)) true (lt-ltb 0 (length m + 431) (omega arith)) refl)
+      (and-both (and-both (lt-ltb 0 (length m + 431) (omega arith)) refl)
       (le-leb 21 (length m + 431) (omega arith)))
 
   loaded-state : loadedState (imageOf s m t) ≡ s

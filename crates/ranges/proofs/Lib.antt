@@ -1,0 +1,12 @@
+-- The laws, from words to runs.
+pub mod Places
+pub mod Bounds
+pub mod Files
+pub mod Instructions
+pub mod Control
+pub mod Pages
+pub mod States
+pub mod Packing
+pub mod Step
+pub mod Sizes
+pub mod Run

@@ -1,0 +1,2 @@
+-- What a step and a run keep.
+pub mod Sound

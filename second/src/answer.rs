@@ -1,0 +1,73 @@
+//! Answers: internal interrupts, refusals and the reasons a run ends.
+
+/// Internal interrupts by number. 8 (parity) and 10 (power) never occur here.
+#[derive(Clone, Copy, Debug, PartialEq, Eq)]
+#[repr(u16)]
+pub enum Interrupt {
+    MonitorCall = 1,
+    Protect = 2,
+    PageFault = 3,
+    Illegal = 4,
+    ErrorFlag = 5,
+    Privileged = 6,
+    NoDevice = 7,
+    OutOfRange = 9,
+}
+
+impl Interrupt {
+    pub fn number(self) -> u16 {
+        self as u16
+    }
+}
+
+/// Refusals by number. A refused operation changes nothing.
+#[derive(Clone, Copy, Debug, PartialEq, Eq)]
+#[repr(u16)]
+pub enum Refusal {
+    /// Memory or tables of a wrong size.
+    Size = 1,
+    /// A state out of its ranges.
+    State = 2,
+    /// Raise of a level other than 10 to 13 and 15.
+    Level = 3,
+    /// Image contents short or over 32 entries.
+    Contents = 4,
+    /// Entry of unknown kind.
+    Kind = 5,
+    /// Entry beyond its target's size.
+    Beyond = 6,
+    /// Entry covering a word already named.
+    Twice = 7,
+    /// Bodies other than exactly the rest.
+    Bodies = 8,
+    /// View beyond its target's size.
+    View = 9,
+    /// Lent output too short.
+    Short = 10,
+}
+
+impl Refusal {
+    pub fn number(self) -> u16 {
+        self as u16
+    }
+}
+
+/// Why a run ended.
+#[derive(Clone, Copy, Debug, PartialEq, Eq)]
+pub enum Reason {
+    Stopped,
+    Level,
+    Spent,
+    Interrupt,
+}
+
+impl Reason {
+    pub fn name(self) -> &'static str {
+        match self {
+            Reason::Stopped => "stopped",
+            Reason::Level => "level",
+            Reason::Spent => "spent",
+            Reason::Interrupt => "interrupt",
+        }
+    }
+}
