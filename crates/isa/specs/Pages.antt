@@ -2,7 +2,7 @@
 use Prim.Native.Nat.{ℕ, zero, suc, _+_, _*_, _/_, _%_}
 use mathlib.Core.Bool.{Bool, true, false, cond, not, _&&_, _||_}
 use mathlib.Core.List.{List, [], _∷_}
-use lib.ListN.{getD, set, length}
+use lib.ListN.{getD, set, drop, length}
 use lib.Dec.{ltb, leb, eqb}
 use Rattle.isa.specs.Machine.{bit, reg, flag, flagPTM, ringOf, normalTableOf, alternateTableOf, withPcr}
 use Rattle.isa.specs.declared.machine.Core.{Core}
@@ -191,11 +191,9 @@ abbrev pub storeAll : List ℕ → List ℕ → List Translation → List ℕ �
 storeAll m t [] ws = lent m t
 storeAll m t (NoAccess ∷ xs) ws = storeAll m t xs ws
 storeAll m t (Load p ∷ xs) ws = storeAll m t xs ws
-storeAll m t (Store p ∷ xs) [] = lent m t
-storeAll m t (Store p ∷ xs) (w ∷ ws) = storeAll (set m p w) t xs ws
+storeAll m t (Store p ∷ xs) ws = storeAll (set m p (getD ws 0 0)) t xs (drop 1 ws)
 storeAll m t (LoadTable i ∷ xs) ws = storeAll m t xs ws
-storeAll m t (StoreTable i ∷ xs) [] = lent m t
-storeAll m t (StoreTable i ∷ xs) (w ∷ ws) = storeAll m (set t i w) xs ws
+storeAll m t (StoreTable i ∷ xs) ws = storeAll m (set t i (getD ws 0 0)) xs (drop 1 ws)
 storeAll m t (Protection g ∷ xs) ws = storeAll m t xs ws
 storeAll m t (PageFault g ∷ xs) ws = storeAll m t xs ws
 storeAll m t (OutOfRange ∷ xs) ws = storeAll m t xs ws

@@ -6,7 +6,7 @@ use mathlib.Core.Bool.{Bool, true, false}
 use mathlib.Core.List.{List, [], _∷_}
 use native.Mathlib.Omega.{arith}
 use native.Mathlib.Decide.{decLt, ℕ-discrete}
-use lib.ListN.{getD, set, length, length-set}
+use lib.ListN.{getD, set, drop, length, length-set}
 use lib.Seq.{getD-set-same, getD-set-other, set-out}
 use Rattle.isa.specs.Pages.{wordAt, wordsAt, storeAll, Lent}
 use Rattle.isa.specs.Isolation.{permitted, permittedWriting}
@@ -88,10 +88,11 @@ module _ (t₀ : List ℕ) (a b ρ : ℕ) where
   store-all m n t [] ws h l = stored-none m n t l
   store-all m n t (NoAccess ∷ xs) ws (also h hs) l = store-all m n t xs ws hs l
   store-all m n t (Load p ∷ xs) ws (also h hs) l = store-all m n t xs ws hs l
-  store-all m n t (Store p ∷ xs) [] (also h hs) l = stored-none m n t l
-  store-all m n t (Store p ∷ xs) (w ∷ ws) (also h hs) l =
-      stored-more m n (set m p w) (set n p w) t (storeAll (set m p w) t xs ws) (storeAll (set n p w) t xs ws) (set-kept m p w h) (set-kept n p w h)
-      (store-all (set m p w) (set n p w) t xs ws hs (set-agree m n p w l))
+  store-all m n t (Store p ∷ xs) ws (also h hs) l =
+      let w : ℕ = getD ws 0 0 in
+      let vs : List ℕ = drop 1 ws in
+      stored-more m n (set m p w) (set n p w) t (storeAll (set m p w) t xs vs) (storeAll (set n p w) t xs vs) (set-kept m p w h) (set-kept n p w h)
+      (store-all (set m p w) (set n p w) t xs vs hs (set-agree m n p w l))
   store-all m n t (LoadTable i ∷ xs) ws (also h hs) l = absurd h
   store-all m n t (StoreTable i ∷ xs) ws (also h hs) l = absurd h
   store-all m n t (Protection g ∷ xs) ws (also h hs) l = store-all m n t xs ws hs l

@@ -5,7 +5,7 @@ use native.Mathlib.Omega.{arith}
 use mathlib.Core.Path.{_≡_}
 use mathlib.Core.Bool.{Bool, false, not, _&&_}
 use mathlib.Core.List.{List, [], _∷_}
-use lib.ListN.{getD, set}
+use lib.ListN.{drop, getD, set}
 use lib.Dec.{eqb, ltb}
 use borrow.Author.Tests.{eqb-false}
 use Rattle.isa.specs.Machine.{Words, flag, flagPTM}
@@ -19,7 +19,7 @@ use Rattle.isa.specs.declared.access.Rights.{Rights}
 use Rattle.isa.specs.declared.access.Translation.{Translation}
 use Rattle.isa.specs.declared.access.Translation.the-variants.{NoAccess, Load, Store, LoadTable, StoreTable, Protection, PageFault, OutOfRange}
 use Rattle.isa.proofs.Tests.{either}
-use Rattle.ranges.proofs.Places.{Each, set-words, nil-words, cons-words}
+use Rattle.ranges.proofs.Places.{Each, set-words, nil-words, cons-words, drop-each}
 use Rattle.ranges.proofs.Control.{PgsFits, CoreFits, internal-fit, control-fits, gives-fits}
 
 -- ---- the paging status
@@ -169,11 +169,11 @@ module _ (W : ℕ → Type 0) (M T : List ℕ → Type 0) (store : (l : List ℕ
   stored-keeps [] m t ws p q h = record { memory = p; tables = q }
   stored-keeps (NoAccess ∷ xs) m t ws p q h = stored-keeps xs m t ws p q h
   stored-keeps (Load a ∷ xs) m t ws p q h = stored-keeps xs m t ws p q h
-  stored-keeps (Store a ∷ xs) m t [] p q h = record { memory = p; tables = q }
-  stored-keeps (Store a ∷ xs) m t (w ∷ ws) p q h = stored-keeps xs (set m a w) t ws (store m a w p (h 0)) q (λ i. h (suc i))
+  stored-keeps (Store a ∷ xs) m t ws p q h =
+      stored-keeps xs (set m a (getD ws 0 0)) t (drop 1 ws) (store m a (getD ws 0 0) p (h 0)) q (drop-each (λ i. W) 1 ws h)
   stored-keeps (LoadTable a ∷ xs) m t ws p q h = stored-keeps xs m t ws p q h
-  stored-keeps (StoreTable a ∷ xs) m t [] p q h = record { memory = p; tables = q }
-  stored-keeps (StoreTable a ∷ xs) m t (w ∷ ws) p q h = stored-keeps xs m (set t a w) ws p (storeTable t a w q (h 0)) (λ i. h (suc i))
+  stored-keeps (StoreTable a ∷ xs) m t ws p q h =
+      stored-keeps xs m (set t a (getD ws 0 0)) (drop 1 ws) p (storeTable t a (getD ws 0 0) q (h 0)) (drop-each (λ i. W) 1 ws h)
   stored-keeps (Protection g ∷ xs) m t ws p q h = stored-keeps xs m t ws p q h
   stored-keeps (PageFault g ∷ xs) m t ws p q h = stored-keeps xs m t ws p q h
   stored-keeps (OutOfRange ∷ xs) m t ws p q h = stored-keeps xs m t ws p q h
