@@ -5,9 +5,8 @@ use mathlib.Core.Path.{_≡_, refl}
 use mathlib.Core.Bool.{Bool, true, false, cond}
 use mathlib.Core.List.{List, [], _∷_, _++_}
 use lib.ListN.{replicate}
-use lib.IntN.{ℤ, pos, negsuc}
 use Rattle.isa.specs.Machine.{fileAt, putFile}
-use Rattle.isa.specs.Flags.{signedOf, adder, withOverflow, withSum, productOverflow, divisionFails, leftOnce, rightOnce}
+use Rattle.isa.specs.Flags.{adder, withOverflow, withSum, productOverflow, divisionFails, leftOnce, rightOnce}
 use Rattle.isa.specs.Decode.{byEnds, decode, traOf, trrOf, maskedOf, switchOf, srbOf, lrbOf, shiftOf}
 use Rattle.isa.specs.Address.{firstAddress}
 use Rattle.isa.specs.Instructions.{divided}
@@ -17,19 +16,6 @@ use Rattle.isa.specs.Cases.{given, stated}
 use Rattle.isa.specs.Isolation.{permits, permitsWriting}
 use Rattle.isa.specs.declared.machine.State.{State}
 use Rattle.isa.specs.declared.access.Rights.{Rights}
-
--- "a displacement of -128 to 127"; "the shift count is bits 5-0, -32 to 31"
-abbrev fields : List (ℤ × ℤ)
-fields =
-    (signedOf 8 0o177, pos 127)
-    ∷ (signedOf 8 0o200, negsuc 127)
-    ∷ (signedOf 8 0o377, negsuc 0)
-    ∷ (signedOf 6 0o37, pos 31)
-    ∷ (signedOf 6 0o40, negsuc 31)
-    ∷ []
-
-pub signed-ends : given fields ≡ stated fields
-signed-ends = refl
 
 -- "Addresses 177400 to 177777 are the page tables when paging is off or the ring is 3"
 abbrev rights : Bool → ℕ → Rights

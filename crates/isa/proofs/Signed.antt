@@ -3,6 +3,7 @@
 use Prim.Native.Nat.{ℕ, zero, suc, _+_, _-_, _*_, _%_, _^_, _<_, _≤_}
 use mathlib.Core.Path.{_≡_, refl, sym, ap, _∙_, subst}
 use mathlib.Core.Bool.{Bool, true, false, cond}
+use mathlib.Core.List.{List, [], _∷_}
 use native.Mathlib.Omega.{arith}
 use native.Mathlib.Nat.{mod-lt, mod-eq-of-lt, pow-suc}
 use lib.Dec.{ltb}
@@ -11,6 +12,20 @@ use lib.IntN.{ℤ, pos, negsuc}
 use lib.Signed.{mag}
 use borrow.Author.Tests.{ltb-true, ltb-false, lt-ltb, le-ltb}
 use Rattle.isa.specs.Flags.{signedOf, bitsOf}
+use Rattle.isa.specs.Cases.{given, stated}
+
+-- "a displacement of -128 to 127"; "the shift count is bits 5-0, -32 to 31"
+abbrev fields : List (ℤ × ℤ)
+fields =
+    (signedOf 8 0o177, pos 127)
+    ∷ (signedOf 8 0o200, negsuc 127)
+    ∷ (signedOf 8 0o377, negsuc 0)
+    ∷ (signedOf 6 0o37, pos 31)
+    ∷ (signedOf 6 0o40, negsuc 31)
+    ∷ []
+
+pub signed-ends : given fields ≡ stated fields
+signed-ends = refl
 
 -- a width above 0 is twice its half
 pub twice-half : (k : ℕ) → 0 < k → 2 ^ k ≡ 2 ^ (k - 1) * 2
