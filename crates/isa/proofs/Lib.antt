@@ -8,3 +8,4 @@ pub mod Marks
 pub mod Permits
 pub mod Runs
 pub mod Examples
+pub mod Packing

@@ -74,15 +74,15 @@ waited l k =
     cond (eqb (k .interrupts) 1) (cond (eqb l 0) k (withPid k (withBit l 0 (k .pid))))
     (withSwitches k (k .interrupts) (k .paging) 1)
 
--- the full status word: bit 15 interrupts on, 14 paging on, 13 zero, 12 one, 11-8 the level, 7-0 the flags
+-- the full status word: bit 15 interrupts on, 14 paging on, 13 zero, 12 one, 11-8 the level, 7-0 the flags, each in its bits
 abbrev pub statusWord : ℕ → Control → ℕ → ℕ
-statusWord l k sts = k .interrupts * 32768 + k .paging * 16384 + 4096 + l * 256 + sts
+statusWord l k sts = k .interrupts % 2 * 32768 + k .paging % 2 * 16384 + 4096 + l % 16 * 256 + sts % 256
 
 -- TRA: what A gets at level l
 abbrev pub internalWord : ℕ → Core → Readable → ℕ
 internalWord l c Status = statusWord l (c .control) (reg (c .file) Sts)
 internalWord l c Pgs = c .control .pgs
-internalWord l c Pvl = 0o153602 + c .control .pvl * 8
+internalWord l c Pvl = 0o153602 + c .control .pvl % 16 * 8
 internalWord l c Iic = highestIn 15 (c .control .iid)
 internalWord l c Pid = c .control .pid
 internalWord l c Pie = c .control .pie

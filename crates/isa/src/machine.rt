@@ -1,7 +1,7 @@
 // What the machine keeps: registers, control words, and the parts that the engine keeps apart.
 ghost use mathlib.Core.Path.{_≡_};
 ghost use Prim.Native.Nat.{_<_};
-ghost use Rattle.isa.specs.Machine.{number, reg, withReg};
+ghost use Rattle.isa.specs.Machine.{number, reg, withReg, next, withFile, withPcr, withControl, nextCore};
 
 // The registers of a level, in the order of their numbers 0 to 7.
 pub enum Register {
@@ -53,6 +53,14 @@ impl File {
         self.words[n] = v;
         self
     }
+
+    // P one further; the sum drops the carry.
+    pub fn next(self) -> File
+        ensures { λ f. ⌜ f ≡ next self ⌝ }
+    {
+        let p = self.get(Register::P);
+        self.with(Register::P, std::num::wrapping_add_u16(p, 1))
+    }
 }
 
 // The control words 1 to 9. The level (0) and the PCRs (10 to 25) stand beside them.
@@ -81,4 +89,48 @@ pub struct Core {
     pub file: File,
     pub pcr: u16,
     pub control: Control,
+}
+
+impl Core {
+    pub fn with_file(self, f: File) -> Core
+        ensures { λ c. ⌜ c ≡ withFile self f ⌝ }
+    {
+        let k = self.control;
+        Core {
+            file: f,
+            pcr: self.pcr,
+            control: k,
+        }
+    }
+
+    pub fn with_pcr(self, p: u16) -> Core
+        ensures { λ c. ⌜ c ≡ withPcr self p ⌝ }
+    {
+        let f = self.file;
+        let k = self.control;
+        Core {
+            file: f,
+            pcr: p,
+            control: k,
+        }
+    }
+
+    pub fn with_control(self, k: Control) -> Core
+        ensures { λ c. ⌜ c ≡ withControl self k ⌝ }
+    {
+        let f = self.file;
+        Core {
+            file: f,
+            pcr: self.pcr,
+            control: k,
+        }
+    }
+
+    // P one further.
+    pub fn following(self) -> Core
+        ensures { λ c. ⌜ c ≡ nextCore self ⌝ }
+    {
+        let f = self.file;
+        self.with_file(f.next())
+    }
 }

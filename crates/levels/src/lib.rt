@@ -1,0 +1,47 @@
+// A level's words: taken out of those of all levels, and put back.
+ghost use mathlib.Core.Path.{_≡_};
+ghost use Prim.Native.Nat.{_<_};
+ghost use lib.ListN.{length};
+ghost use Rattle.isa.specs.Machine.{fileAt, putFile, coreOf, pack};
+use isa::machine::Core;
+use isa::machine::File;
+use isa::machine::Register;
+use isa::machine::State;
+
+// A level's registers.
+pub fn file_at(regs: &[u16], level: u16) -> File
+    requires { ⌜ level < 16 ⌝ }
+    requires { ⌜ length (now regs) ≡ 128 ⌝ }
+    ensures { λ f. ⌜ f ≡ fileAt (now (regs .entry)) level ⌝ }
+{
+    let i = level as usize * 8;
+    File {
+        words: [
+            regs[i],
+            regs[i + 1],
+            regs[i + 2],
+            regs[i + 3],
+            regs[i + 4],
+            regs[i + 5],
+            regs[i + 6],
+            regs[i + 7],
+        ],
+    }
+}
+
+// All registers with a level's replaced.
+pub fn put_file(regs: &mut [u16], level: u16, f: File)
+    requires { ⌜ level < 16 ⌝ }
+    requires { ⌜ length (now regs) ≡ 128 ⌝ }
+    ensures { λ _. ⌜ now (regs .exit) ≡ putFile (now (regs .entry)) level f ⌝ }
+{
+    let i = level as usize * 8;
+    regs[i] = f.get(Register::Sts);
+    regs[i + 1] = f.get(Register::D);
+    regs[i + 2] = f.get(Register::P);
+    regs[i + 3] = f.get(Register::B);
+    regs[i + 4] = f.get(Register::L);
+    regs[i + 5] = f.get(Register::A);
+    regs[i + 6] = f.get(Register::T);
+    regs[i + 7] = f.get(Register::X);
+}
