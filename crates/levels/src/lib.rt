@@ -45,3 +45,40 @@ pub fn put_file(regs: &mut [u16], level: u16, f: File)
     regs[i + 6] = f.get(Register::T);
     regs[i + 7] = f.get(Register::X);
 }
+
+// The running level's words out of a state.
+pub fn opened(s: State) -> Core
+    requires { ⌜ s .level < 16 ⌝ }
+    ensures { λ c. ⌜ c ≡ coreOf s ⌝ }
+{
+    let level = s.level;
+    let regs = s.regs;
+    let k = s.control;
+    let f = file_at(&regs, level);
+    let i = level as usize;
+    Core {
+        file: f,
+        pcr: s.pcr[i],
+        control: k,
+    }
+}
+
+// The state of the running level's words and those of all levels.
+pub fn closed(level: u16, c: Core, regs: [u16; 128], pcrs: [u16; 16]) -> State
+    requires { ⌜ level < 16 ⌝ }
+    ensures { λ s. ⌜ s ≡ pack level c regs pcrs ⌝ }
+{
+    let mut b = regs;
+    let mut p = pcrs;
+    let f = c.file;
+    let k = c.control;
+    let i = level as usize;
+    put_file(&mut b, level, f);
+    p[i] = c.pcr;
+    State {
+        regs: b,
+        level: level,
+        control: k,
+        pcr: p,
+    }
+}
