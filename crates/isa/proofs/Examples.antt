@@ -12,7 +12,7 @@ use Rattle.isa.specs.Address.{firstAddress}
 use Rattle.isa.specs.Instructions.{divided}
 use Rattle.isa.specs.Pages.{entryOf, withinMemory, judged, inWindow, translate, marked, lowered}
 use Rattle.isa.specs.Step.{Turn, step, interrupted, faulted, finished, operandsTested, operands, indirectTested, userStage, examined, deposited, instructionStage, fetched, stepIn, putOther, blockStored, blockLoaded, farStage, settled, changeDue, levelChanged}
-use Rattle.isa.specs.Cases.{given, stated}
+use Rattle.isa.specs.Cases.{quiet, given, stated}
 use Rattle.isa.specs.Isolation.{permits, permitsWriting}
 use Rattle.isa.specs.declared.machine.State.{State}
 use Rattle.isa.specs.declared.access.Rights.{Rights}
@@ -61,17 +61,7 @@ abbrev start : ℕ → State
 start sts = record {
   regs = sts ∷ 0 ∷ 0 ∷ 0o4000 ∷ 0 ∷ 0 ∷ 0 ∷ 0o10000 ∷ replicate 120 0;
   level = 0;
-  control = record {
-    interrupts = 0;
-    paging = 1;
-    stopped = 0;
-    pid = 0;
-    pie = 0;
-    pvl = 0;
-    iid = 0;
-    iie = 0;
-    pgs = 0;
-  };
+  control = quiet 1;
   pcr = 0o200 ∷ replicate 15 0;
 }
 

@@ -12,26 +12,31 @@ use Rattle.isa.specs.Address.{firstAddress}
 use Rattle.isa.specs.Instructions.{divided}
 use Rattle.isa.specs.Pages.{withinMemory, judged, inWindow, translate, marked, lowered}
 use Rattle.isa.specs.Step.{Turn, step, interrupted, faulted, finished, operandsTested, operands, indirectTested, userStage, examined, deposited, instructionStage, fetched, stepIn, putOther, blockStored, blockLoaded, farStage, settled, changeDue, levelChanged}
+use Rattle.isa.specs.declared.machine.Control.{Control}
 use Rattle.isa.specs.declared.machine.State.{State}
 
 -- ---- the starts
+
+-- control words that are 0, but for the paging switch
+abbrev pub quiet : ℕ → Control
+quiet paging = record {
+  interrupts = 0;
+  paging = paging;
+  stopped = 0;
+  pid = 0;
+  pie = 0;
+  pvl = 0;
+  iid = 0;
+  iie = 0;
+  pgs = 0;
+}
 
 -- a machine on level 0, P 0, with the registers D, B, A and T and the paging switch and PCR of the level
 abbrev pub start : ℕ → ℕ → ℕ → ℕ → ℕ → ℕ → State
 start d b a t paging pcr = record {
   regs = 0 ∷ d ∷ 0 ∷ b ∷ 0 ∷ a ∷ t ∷ 0 ∷ replicate 120 0;
   level = 0;
-  control = record {
-    interrupts = 0;
-    paging = paging;
-    stopped = 0;
-    pid = 0;
-    pie = 0;
-    pvl = 0;
-    iid = 0;
-    iie = 0;
-    pgs = 0;
-  };
+  control = quiet paging;
   pcr = pcr ∷ replicate 15 0;
 }
 
@@ -73,7 +78,7 @@ cases =
           (record {
             regs = 0 ∷ 0 ∷ 0o100 ∷ replicate 125 0;
             level = 0;
-            control = start 0 0 0 0 0 0 .control;
+            control = quiet 0;
             pcr = replicate 16 0;
           })
           (replicate 0o76 0 ++ (0o001234 ∷ 0 ∷ 0o044376 ∷ replicate 959 0))

@@ -13,7 +13,7 @@ use Rattle.isa.specs.Pages.{withinMemory, judged, inWindow, translate, marked, 
 use Rattle.isa.specs.Step.{step, interrupted, faulted, finished, operandsTested, operands, indirectTested, userStage, examined, deposited, instructionStage, fetched, stepIn, putOther, blockStored, blockLoaded, farStage, settled, changeDue, levelChanged}
 use Rattle.isa.specs.Answers.{RunCall, runCall, stateAnswer, stepsTaken}
 use Rattle.isa.specs.Isolation.{inEither, reachable, writable}
-use Rattle.isa.specs.Cases.{given, stated}
+use Rattle.isa.specs.Cases.{quiet, given, stated}
 use Rattle.isa.specs.declared.machine.State.{State}
 
 -- Physical page 0 holds four small programs. Each begins at its address with BSET ONE SSPTM, so that PTM is 1 whatever it was, takes the
@@ -48,17 +48,7 @@ abbrev pub start : ℕ → State
 start p = record {
   regs = replicate 8 0 ++ (0 ∷ 0 ∷ p ∷ 0o002000 ∷ 0 ∷ 0 ∷ 0 ∷ 0o004000 ∷ replicate 112 0);
   level = 1;
-  control = record {
-    interrupts = 0;
-    paging = 1;
-    stopped = 0;
-    pid = 0;
-    pie = 0;
-    pvl = 0;
-    iid = 0;
-    iie = 0;
-    pgs = 0;
-  };
+  control = quiet 1;
   pcr = 0 ∷ 0o201 ∷ replicate 14 0;
 }
 
