@@ -9,3 +9,4 @@ pub mod Permits
 pub mod Runs
 pub mod Examples
 pub mod Packing
+pub mod Bits

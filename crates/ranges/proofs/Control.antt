@@ -25,7 +25,7 @@ use Rattle.isa.specs.declared.instruction.Maskable.the-variants.{Status as InSt
 use Rattle.isa.specs.declared.instruction.ControlOp.{ControlOp}
 use Rattle.isa.specs.declared.instruction.ControlOp.the-variants.{Ion, Iof, Pon, Pof, Pion, Piof, Wait, Tra, Trr, Mcl, Mst}
 use Rattle.isa.proofs.Tests.{either, decided}
-use Rattle.ranges.proofs.Bounds.{bit-below, bit-even}
+use Rattle.isa.proofs.Bits.{bit-below, bit-even}
 use Rattle.ranges.proofs.Files.{FileFits, reg-word, sts-flags, with-word, with-sts, next-fits}
 
 -- ---- the control words, one by one

@@ -15,7 +15,7 @@ use Rattle.isa.specs.declared.machine.Register.{Register}
 use Rattle.isa.specs.declared.machine.Register.the-variants.{Sts, D, P, B, L, A, T, X}
 use Rattle.isa.proofs.Tests.{either, decided}
 use Rattle.ranges.proofs.Places.{Each, set-each}
-use Rattle.ranges.proofs.Bounds.{bit-below}
+use Rattle.isa.proofs.Bits.{bit-below}
 
 -- a word at its place among registers: every eighth is an STS
 pub record Fits (i v : ℕ) : Type 0 where

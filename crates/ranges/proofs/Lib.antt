@@ -1,6 +1,5 @@
 -- The laws, from words to runs.
 pub mod Places
-pub mod Bounds
 pub mod Files
 pub mod Instructions
 pub mod Control

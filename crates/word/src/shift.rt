@@ -1,0 +1,130 @@
+// Shifts of a word and of a double word by single places, in one way for both widths.
+ghost use mathlib.Core.Path.{_≡_};
+ghost use Prim.Native.Nat.{_<_, _≤_};
+ghost use Rattle.isa.specs.Flags.{lowerInput, upperInput, leftOnce, rightOnce, leftBy, rightBy, shiftBy};
+ghost use Rattle.word.specs.Results.{shiftedOf, InWidth};
+use isa::instruction::ShiftKind;
+
+// The value shifted, and M.
+pub struct Shifted {
+    pub value: u32,
+    pub m: u16,
+}
+
+// The bit that comes in at the lower end, where top leaves.
+fn lower_input(k: ShiftKind, top: u16, m: u16) -> u16
+    ensures { λ r. ⌜ r ≡ lowerInput k top m ⌝ }
+{
+    match k {
+        ShiftKind::Arithmetic => 0,
+        ShiftKind::Rotational => top,
+        ShiftKind::ZeroInput => 0,
+        ShiftKind::LinkInput => m,
+    }
+}
+
+// The bit that comes in at the upper end, where low leaves.
+fn upper_input(k: ShiftKind, top: u16, low: u16, m: u16) -> u16
+    ensures { λ r. ⌜ r ≡ upperInput k top low m ⌝ }
+{
+    match k {
+        ShiftKind::Arithmetic => top,
+        ShiftKind::Rotational => low,
+        ShiftKind::ZeroInput => 0,
+        ShiftKind::LinkInput => m,
+    }
+}
+
+// One place to the left in w bits.
+fn left_once(w: u32, k: ShiftKind, s: Shifted) -> Shifted
+    requires { ⌜ InWidth w s ⌝ }
+    ensures { λ r. ⌜ shiftedOf r ≡ leftOnce w k (shiftedOf s) ⌝ }
+{
+    let half = 1u32 << (w - 1);
+    let top = (s.value / half) as u16;
+    let input = lower_input(k, top, s.m);
+    Shifted {
+        value: s.value % half * 2 + input as u32,
+        m: top,
+    }
+}
+
+// One place to the right in w bits.
+fn right_once(w: u32, k: ShiftKind, s: Shifted) -> Shifted
+    requires { ⌜ InWidth w s ⌝ }
+    ensures { λ r. ⌜ shiftedOf r ≡ rightOnce w k (shiftedOf s) ⌝ }
+{
+    let half = 1u32 << (w - 1);
+    let top = (s.value / half) as u16;
+    let low = (s.value % 2) as u16;
+    let input = upper_input(k, top, low, s.m);
+    Shifted {
+        value: input as u32 * half + s.value / 2,
+        m: low,
+    }
+}
+
+fn left_by(w: u32, k: ShiftKind, start: Shifted, n: u32) -> Shifted
+    requires { ⌜ InWidth w start ⌝ }
+    ensures { λ r. ⌜ shiftedOf r ≡ leftBy w k n (shiftedOf start) ⌝ }
+{
+    let mut s = start;
+    let mut i = 0;
+    while i < n {
+        s = left_once(w, k, s);
+        i += 1;
+    }
+    s
+}
+
+fn right_by(w: u32, k: ShiftKind, start: Shifted, n: u32) -> Shifted
+    requires { ⌜ InWidth w start ⌝ }
+    ensures { λ r. ⌜ shiftedOf r ≡ rightBy w k n (shiftedOf start) ⌝ }
+{
+    let mut s = start;
+    let mut i = 0;
+    while i < n {
+        s = right_once(w, k, s);
+        i += 1;
+    }
+    s
+}
+
+// Left by a positive count, right by a negative one.
+fn shift_by(w: u32, k: ShiftKind, n: i16, s: Shifted) -> Shifted
+    requires { ⌜ InWidth w s ⌝ }
+    ensures { λ r. ⌜ shiftedOf r ≡ shiftBy w k n (shiftedOf s) ⌝ }
+{
+    if 0 <= n {
+        return left_by(w, k, s, n as u32);
+    }
+    right_by(w, k, s, (0 - n as i32) as u32)
+}
+
+// A word by the count n, left when positive.
+pub fn shift16(k: ShiftKind, n: i16, v: u16, m: u16) -> Shifted
+    requires { ⌜ m < 2 ⌝ }
+    ensures value { λ r. ⌜ r .value ≡ shiftBy 16 k n (record { value = v; m = m }) .value ⌝ }
+    ensures m { λ r. ⌜ r .m ≡ shiftBy 16 k n (record { value = v; m = m }) .m ⌝ }
+    ensures width { λ r. ⌜ (r .value < 65536) × (r .m < 2) ⌝ }
+{
+    shift_by(
+        16,
+        k,
+        n,
+        Shifted {
+            value: v as u32,
+            m: m,
+        },
+    )
+}
+
+// A double word.
+pub fn shift32(k: ShiftKind, n: i16, v: u32, m: u16) -> Shifted
+    requires { ⌜ m < 2 ⌝ }
+    ensures value { λ r. ⌜ r .value ≡ shiftBy 32 k n (record { value = v; m = m }) .value ⌝ }
+    ensures m { λ r. ⌜ r .m ≡ shiftBy 32 k n (record { value = v; m = m }) .m ⌝ }
+    ensures width { λ r. ⌜ r .m < 2 ⌝ }
+{
+    shift_by(32, k, n, Shifted { value: v, m: m })
+}
