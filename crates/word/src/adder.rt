@@ -20,6 +20,16 @@ fn overflow_of(a: u16, b: u16, c: u16) -> u16
     whole::beyond(whole::signed(a) + whole::signed(b) + c as i64)
 }
 
+// The carry out of bit 15.
+fn carry_of(a: u16, b: u16, c: u16) -> u16
+    requires { ⌜ c < 2 ⌝ }
+    ensures { λ r. ⌜ r ≡ adder a b c .carry ⌝ }
+    ensures { λ r. ⌜ r < 2 ⌝ }
+{
+    let s = a as u32 + b as u32 + c as u32;
+    (s / 65536) as u16
+}
+
 // a + b with the carry in c.
 pub fn add(a: u16, b: u16, c: u16) -> Sum
     requires { ⌜ c < 2 ⌝ }
@@ -28,10 +38,10 @@ pub fn add(a: u16, b: u16, c: u16) -> Sum
     ensures overflow { λ r. ⌜ r .overflow ≡ adder a b c .overflow ⌝ }
     ensures carry_bit { λ r. ⌜ r .carry < 2 ⌝ }
 {
-    let s = a as u32 + b as u32 + c as u32;
+    let half = std::num::wrapping_add_u16(a, b);
     Sum {
-        value: (s % 65536) as u16,
-        carry: (s / 65536) as u16,
+        value: std::num::wrapping_add_u16(half, c),
+        carry: carry_of(a, b, c),
         overflow: overflow_of(a, b, c),
     }
 }
