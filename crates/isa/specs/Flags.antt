@@ -112,15 +112,15 @@ shiftBy w k (negsuc n) s = rightBy w k (suc n) s
 
 -- "GEQ tests the sign of dr - sr in 16 bits; GRE is the true signed comparison." MGRE compares without signs (document 002:
 -- C = 1 of dr - sr), and the other four are the complements.
-abbrev pub less : ℕ → ℕ → ℕ
-less d s = (d + (65536 - s)) % 65536
+abbrev pub wordDifference : ℕ → ℕ → ℕ
+wordDifference d s = (d + (65536 - s)) % 65536
 
 abbrev pub compares : Relation → ℕ → ℕ → Bool
 compares Eql d s = eqb d s
-compares Geq d s = ltb (less d s) 32768
+compares Geq d s = ltb (wordDifference d s) 32768
 compares Gre d s = leZ (signedOf 16 s) (signedOf 16 d)
 compares Mgre d s = leb s d
 compares Ueq d s = not (eqb d s)
-compares Lss d s = not (ltb (less d s) 32768)
+compares Lss d s = not (ltb (wordDifference d s) 32768)
 compares Lst d s = not (leZ (signedOf 16 s) (signedOf 16 d))
 compares Mlst d s = not (leb s d)

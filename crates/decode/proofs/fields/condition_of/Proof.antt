@@ -1,0 +1,37 @@
+-- Each value is a row of the table, the last what is left.
+-- Assumes nothing.
+use Prim.Native.Nat.{zero-le}
+use native.Mathlib.Omega.{arith}
+use mathlib.Core.Path.{refl}
+use Rattle.decode.proofs.Laws.{row, beyond, past}
+use Rattle.decode.proofs.fields.condition_of.Statement.{statement}
+use Rattle.decode.proofs.fields.condition_of.Tie as tie
+
+returns : tie.Need-returns
+returns c = row 0 0 _ _ _ refl refl (omega arith) (omega arith)
+
+returns-2 : tie.Need-returns-2
+returns-2 c = row 1 1 _ _ _ refl refl (omega arith) (omega arith)
+
+returns-3 : tie.Need-returns-3
+returns-3 c = row 2 2 _ _ _ refl refl (omega arith) (omega arith)
+
+returns-4 : tie.Need-returns-4
+returns-4 c = row 3 3 _ _ _ refl refl (omega arith) (omega arith)
+
+returns-5 : tie.Need-returns-5
+returns-5 c = row 4 4 _ _ _ refl refl (omega arith) (omega arith)
+
+returns-6 : tie.Need-returns-6
+returns-6 c = row 5 5 _ _ _ refl refl (omega arith) (omega arith)
+
+returns-7 : tie.Need-returns-7
+returns-7 c = row 6 6 _ _ _ refl refl (omega arith) (omega arith)
+
+returns-8 : tie.Need-returns-8
+returns-8 c = beyond 7 _ _ _ refl (past _ 0 7 _ zero-le (c .match .rest))
+
+pub condition-of-spec : {M : Type 1} → statement M
+condition-of-spec =
+    tie.close
+    (tie.spec returns returns-2 returns-3 returns-4 returns-5 returns-6 returns-7 returns-8)

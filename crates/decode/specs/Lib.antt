@@ -1,0 +1,2 @@
+-- What the decoder's parts compute.
+pub mod Operations

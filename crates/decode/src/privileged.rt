@@ -1,0 +1,194 @@
+// Privileged instructions with their fields. A number n is the low six bits.
+ghost use Prim.Native.Nat.{_%_};
+ghost use mathlib.Core.Path.{_≡_};
+ghost use Rattle.isa.specs.declared.instruction.ControlOp.the-variants.{Wait, Tra, Trr, Mcl, Mst};
+ghost use Rattle.isa.specs.declared.instruction.System.the-variants.{Irr, Irw, Iox, Ident};
+ghost use Rattle.isa.specs.declared.instruction.Instruction.the-variants.{Privileged};
+ghost use Rattle.isa.specs.Decode.{control, traOf, trrOf, maskedOf, switchOf, srbOf, lrbOf, fourOf, destinationOf};
+use crate::fields::destination_of;
+use crate::fields::four_of;
+use isa::instruction::ControlOp;
+use isa::instruction::Instruction;
+use isa::instruction::Maskable;
+use isa::instruction::Readable;
+use isa::instruction::System;
+use isa::instruction::Writable;
+
+// An instruction on the running level and the control words.
+fn control(o: ControlOp) -> Instruction
+    ensures { λ r. ⌜ r ≡ control o ⌝ }
+{
+    Instruction::Privileged(System::Control(o))
+}
+
+// TRA of a register.
+fn tra(r: Readable) -> Instruction
+    ensures { λ i. ⌜ i ≡ control (Tra r) ⌝ }
+{
+    Instruction::Privileged(System::Control(ControlOp::Tra(r)))
+}
+
+// TRA: the internal register that is read.
+pub fn tra_of(n: u16) -> Instruction
+    ensures { λ r. ⌜ r ≡ traOf n ⌝ }
+{
+    match n {
+        0..=0 => Instruction::Illegal,
+        1..=1 => tra(Readable::Status),
+        2..=2 => Instruction::Illegal,
+        3..=3 => tra(Readable::Pgs),
+        4..=4 => tra(Readable::Pvl),
+        5..=5 => tra(Readable::Iic),
+        6..=6 => tra(Readable::Pid),
+        7..=7 => tra(Readable::Pie),
+        8..=8 => Instruction::Illegal,
+        9..=9 => tra(Readable::Actl),
+        10..=11 => Instruction::Illegal,
+        12..=12 => Instruction::Privileged(System::TraPgc),
+        _ => Instruction::Illegal,
+    }
+}
+
+// TRR to a register.
+fn trr(r: Writable) -> Instruction
+    ensures { λ i. ⌜ i ≡ control (Trr r) ⌝ }
+{
+    Instruction::Privileged(System::Control(ControlOp::Trr(r)))
+}
+
+// TRR: the internal register that is written.
+pub fn trr_of(n: u16) -> Instruction
+    ensures { λ r. ⌜ r ≡ trrOf n ⌝ }
+{
+    match n {
+        0..=0 => Instruction::Illegal,
+        1..=1 => trr(Writable::Status),
+        2..=2 => Instruction::Illegal,
+        3..=3 => Instruction::Privileged(System::TrrPcr),
+        4..=4 => Instruction::Illegal,
+        5..=5 => trr(Writable::Iie),
+        6..=6 => trr(Writable::Pid),
+        7..=7 => trr(Writable::Pie),
+        _ => Instruction::Illegal,
+    }
+}
+
+// MCL of a register.
+fn mcl(r: Maskable) -> Instruction
+    ensures { λ i. ⌜ i ≡ control (Mcl r) ⌝ }
+{
+    Instruction::Privileged(System::Control(ControlOp::Mcl(r)))
+}
+
+// MCL: the internal register whose bits are cleared.
+pub fn mcl_of(n: u16) -> Instruction
+    ensures { λ r. ⌜ r ≡ maskedOf Mcl n ⌝ }
+{
+    match n {
+        0..=0 => Instruction::Illegal,
+        1..=1 => mcl(Maskable::Status),
+        2..=5 => Instruction::Illegal,
+        6..=6 => mcl(Maskable::Pid),
+        7..=7 => mcl(Maskable::Pie),
+        _ => Instruction::Illegal,
+    }
+}
+
+// MST of a register.
+fn mst(r: Maskable) -> Instruction
+    ensures { λ i. ⌜ i ≡ control (Mst r) ⌝ }
+{
+    Instruction::Privileged(System::Control(ControlOp::Mst(r)))
+}
+
+// MST: the internal register whose bits are set.
+pub fn mst_of(n: u16) -> Instruction
+    ensures { λ r. ⌜ r ≡ maskedOf Mst n ⌝ }
+{
+    match n {
+        0..=0 => Instruction::Illegal,
+        1..=1 => mst(Maskable::Status),
+        2..=5 => Instruction::Illegal,
+        6..=6 => mst(Maskable::Pid),
+        7..=7 => mst(Maskable::Pie),
+        _ => Instruction::Illegal,
+    }
+}
+
+// 150400 to 150477: the switches, IOXT, EXAM and DEPO.
+pub fn switch_of(n: u16) -> Instruction
+    ensures { λ r. ⌜ r ≡ switchOf n ⌝ }
+{
+    match n {
+        0..=0 => Instruction::Illegal,
+        1..=1 => control(ControlOp::Iof),
+        2..=2 => control(ControlOp::Ion),
+        3..=3 => Instruction::Illegal,
+        4..=4 => control(ControlOp::Pof),
+        5..=5 => control(ControlOp::Piof),
+        6..=7 => Instruction::Illegal,
+        8..=8 => control(ControlOp::Pon),
+        9..=9 => Instruction::Illegal,
+        10..=10 => control(ControlOp::Pion),
+        11..=12 => Instruction::Illegal,
+        13..=13 => Instruction::Privileged(System::Ioxt),
+        14..=14 => Instruction::Privileged(System::Exam),
+        15..=15 => Instruction::Privileged(System::Depo),
+        _ => Instruction::Illegal,
+    }
+}
+
+// SRB, by the low three bits.
+pub fn srb_of(w: u16) -> Instruction
+    ensures { λ r. ⌜ r ≡ srbOf w ⌝ }
+{
+    if w % 8 == 2 {
+        return Instruction::Privileged(System::Srb(four_of(w)));
+    }
+    Instruction::Illegal
+}
+
+// LRB, by the low three bits.
+pub fn lrb_of(w: u16) -> Instruction
+    ensures { λ r. ⌜ r ≡ lrbOf w ⌝ }
+{
+    if w % 8 == 0 {
+        return Instruction::Privileged(System::Lrb(four_of(w)));
+    }
+    Instruction::Illegal
+}
+
+// WAIT.
+pub fn wait() -> Instruction
+    ensures { λ r. ⌜ r ≡ control Wait ⌝ }
+{
+    control(ControlOp::Wait)
+}
+
+// IDENT, by its line.
+pub fn ident(w: u16) -> Instruction
+    ensures { λ r. ⌜ r ≡ Privileged (Ident (w % 64)) ⌝ }
+{
+    Instruction::Privileged(System::Ident(w % 64))
+}
+
+// IRW, by its level and register.
+pub fn irw(w: u16) -> Instruction
+    ensures { λ r. ⌜ r ≡ Privileged (Irw (fourOf w) (destinationOf w)) ⌝ }
+{
+    Instruction::Privileged(System::Irw(four_of(w), destination_of(w)))
+}
+
+// IRR, by its level and register.
+pub fn irr(w: u16) -> Instruction
+    ensures { λ r. ⌜ r ≡ Privileged (Irr (fourOf w) (destinationOf w)) ⌝ }
+{
+    Instruction::Privileged(System::Irr(four_of(w), destination_of(w)))
+}
+
+// IOX, by its device address.
+pub fn iox(w: u16) -> Instruction
+    ensures { λ r. ⌜ r ≡ Privileged (Iox (w % 2048)) ⌝ }
+{
+    Instruction::Privileged(System::Iox(w % 2048))
+}

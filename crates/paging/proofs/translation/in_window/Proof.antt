@@ -1,0 +1,21 @@
+-- The address is tested first, then paging, then the ring.
+-- Assumes nothing.
+use borrow.Author.Tests.{le-leb, lt-leb}
+use Rattle.isa.specs.Pages.{inWindow}
+use Rattle.paging.proofs.translation.in_window.Statement.{statement}
+use Rattle.paging.proofs.translation.in_window.Tie as tie
+
+returns : tie.Need-returns
+unfolding inWindow
+returns c = simp (c .before .if2 .taken, le-leb _ _ (c .before .before .if1 .taken))
+
+returns-2 : tie.Need-returns-2
+unfolding inWindow
+returns-2 c = simp (c .if2 .left, le-leb _ _ (c .before .if1 .taken))
+
+returns-3 : tie.Need-returns-3
+unfolding inWindow
+returns-3 c = simp (lt-leb _ _ (c .if1 .left))
+
+pub in-window-spec : {M : Type 1} → statement M
+in-window-spec = tie.close (tie.spec returns returns-2 returns-3)

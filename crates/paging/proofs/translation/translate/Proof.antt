@@ -1,0 +1,69 @@
+-- The window, the tables, or paging off: each has its law.
+-- Assumes nothing.
+use mathlib.Core.Path.{sym, _∙_}
+use borrow.Author.Needs.{needs}
+use Rattle.isa.specs.Address.{access}
+use Rattle.paging.proofs.Laws.{window-translated, window-marked, paged-translated, paged-marked, unpaged-translated, unpaged-marked}
+use Rattle.paging.proofs.translation.translate.Statement.{statement}
+use Rattle.paging.proofs.translation.translate.Tie as tie
+
+in-window-requires : tie.Need-in-window-requires
+in-window-requires c κs = search needs
+
+cast-in-tables : tie.Need-cast-in-tables
+cast-in-tables c = search needs
+
+in-tables-requires : tie.Need-in-tables-requires
+in-tables-requires c κs = search needs
+
+returns : tie.Need-returns
+returns c =
+    let a = c .before .before .before .before .args in
+    let x = access (a .k) (a .alternate) (a .a) in
+    let h = sym (c .before .before .in-window .ensures) ∙ c .before .if1 .taken in
+    (c .in-tables .ensures ∙ sym (window-translated _ _ (a .r) x h), sym (window-marked _ _ (a .r) x h))
+
+slot-of-requires : tie.Need-slot-of-requires
+slot-of-requires c κs = search needs
+
+looked-up-requires : tie.Need-looked-up-requires
+looked-up-requires c κs = search needs
+
+same-length : tie.Need-same-length
+same-length c = search needs
+
+returns-2 : tie.Need-returns-2
+returns-2 c =
+    let a = c .before .before .before .before .before .before .before .before .before .args in
+    let x = access (a .k) (a .alternate) (a .a) in
+    let h = sym (c .before .before .before .before .before .before .before .in-window .ensures) ∙ c .before .before .before .before .before .before .if1 .left in
+    let p = paged-translated (a .tables .now) (a .words) (a .r) x h (c .before .before .before .before .before .if2 .taken) in
+    let q = paged-marked (a .tables .now) (a .words) (a .r) x h (c .before .before .before .before .before .if2 .taken) in
+    let i = c .before .before .before .slot-of .ensures .0 in
+    let l = c .before .before .looked-up .ensures in
+    (simp (l .0, i, p), simp (l .1, q, l .0, i, p))
+
+unmapped-requires : tie.Need-unmapped-requires
+unmapped-requires c κs = search needs
+
+returns-3 : tie.Need-returns-3
+returns-3 c =
+    let a = c .before .before .before .before .before .args in
+    let x = access (a .k) (a .alternate) (a .a) in
+    let h = sym (c .before .before .before .in-window .ensures) ∙ c .before .before .if1 .left in
+    (c .unmapped .ensures ∙ sym (unpaged-translated _ _ (a .r) x h (c .before .if2 .left)), sym (unpaged-marked _ _ (a .r) x h (c .before .if2 .left)))
+
+pub translate-spec : {M : Type 1} → statement M
+translate-spec =
+    tie.close
+    (tie.spec
+    in-window-requires
+    cast-in-tables
+    in-tables-requires
+    returns
+    slot-of-requires
+    looked-up-requires
+    same-length
+    returns-2
+    unmapped-requires
+    returns-3)

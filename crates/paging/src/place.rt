@@ -1,0 +1,56 @@
+// What comes of an access: its interrupt, PGS, and the word at its place.
+ghost use mathlib.Core.Path.{_≡_};
+ghost use lib.ListN.{length};
+ghost use Rattle.isa.specs.Pages.{faultOf, pgsAfter, wordAt};
+ghost use Rattle.paging.specs.Within.{Within};
+use isa::access::Translation;
+
+// The interrupt that an access gives, 0 where it passed.
+pub fn fault_of(x: Translation) -> u16
+    ensures { λ n. ⌜ n ≡ faultOf x ⌝ }
+{
+    match x {
+        Translation::NoAccess => 0,
+        Translation::Load(_) => 0,
+        Translation::Store(_) => 0,
+        Translation::LoadTable(_) => 0,
+        Translation::StoreTable(_) => 0,
+        Translation::Protection(_) => 2,
+        Translation::PageFault(_) => 3,
+        Translation::OutOfRange => 9,
+    }
+}
+
+// PGS after an access.
+pub fn pgs_after(old: u16, x: Translation) -> u16
+    ensures { λ n. ⌜ n ≡ pgsAfter old x ⌝ }
+{
+    match x {
+        Translation::NoAccess => old,
+        Translation::Load(_) => old,
+        Translation::Store(_) => old,
+        Translation::LoadTable(_) => old,
+        Translation::StoreTable(_) => old,
+        Translation::Protection(g) => g,
+        Translation::PageFault(g) => g,
+        Translation::OutOfRange => old,
+    }
+}
+
+// The word at a place, 0 where it is not one to load from.
+pub fn word_at(mem: &[u16], tables: &[u16], x: Translation) -> u16
+    requires { ⌜ Within (length (now mem)) x ⌝ }
+    requires { ⌜ length (now tables) ≡ 256 ⌝ }
+    ensures { λ w. ⌜ w ≡ wordAt (now (mem .entry)) (now (tables .entry)) x ⌝ }
+{
+    match x {
+        Translation::NoAccess => 0,
+        Translation::Load(p) => mem[p],
+        Translation::Store(_) => 0,
+        Translation::LoadTable(i) => tables[i],
+        Translation::StoreTable(_) => 0,
+        Translation::Protection(_) => 0,
+        Translation::PageFault(_) => 0,
+        Translation::OutOfRange => 0,
+    }
+}

@@ -1,0 +1,130 @@
+// Translation: the page-table window, the tests in order, the mark.
+ghost use mathlib.Core.Path.{_≡_};
+ghost use mathlib.Core.Bool.{cond, not};
+ghost use Prim.Native.Nat.{_<_};
+ghost use lib.ListN.{length, set, getD};
+ghost use Rattle.isa.specs.Address.{access};
+ghost use Rattle.isa.specs.Pages.{entryOf, entryAt, slotOf, somePermit, pagingStatus, inMemory, inTables, withinMemory, judged, inWindow, passes, markOf, marked, translate as translated};
+ghost use Rattle.isa.specs.declared.access.Translation.the-variants.{PageFault, Protection};
+use crate::entry::mark;
+use crate::entry::permitted;
+use crate::entry::slot_of;
+use crate::entry::some_permit;
+use crate::entry::status;
+use isa::access::Kind;
+use isa::access::Rights;
+use isa::access::Translation;
+
+fn in_memory(k: Kind, p: usize) -> Translation
+    ensures { λ x. ⌜ x ≡ inMemory k p ⌝ }
+{
+    match k {
+        Kind::Fetch => Translation::Load(p),
+        Kind::Read => Translation::Load(p),
+        Kind::Write => Translation::Store(p),
+        Kind::Indirect => Translation::Load(p),
+    }
+}
+
+fn in_tables(k: Kind, i: usize) -> Translation
+    ensures { λ x. ⌜ x ≡ inTables k i ⌝ }
+{
+    match k {
+        Kind::Fetch => Translation::LoadTable(i),
+        Kind::Read => Translation::LoadTable(i),
+        Kind::Write => Translation::StoreTable(i),
+        Kind::Indirect => Translation::LoadTable(i),
+    }
+}
+
+// The needed permit is missing: no permit at all is a page fault.
+fn refused(e: u16, k: Kind, slot: u16) -> Translation
+    requires { ⌜ slot < 256 ⌝ }
+    ensures { λ x. ⌜ x ≡ cond (not (somePermit (entryOf e))) (PageFault (pagingStatus k 16384 slot)) (Protection (pagingStatus k 16384 slot)) ⌝ }
+{
+    if some_permit(e) {
+        return Translation::Protection(status(k, 16384, slot));
+    }
+    Translation::PageFault(status(k, 16384, slot))
+}
+
+// The access by the entry at the slot, and its mark where it passes. An entry with the needed permit has some permit, so that is
+// asked only where the needed one is missing.
+fn looked_up(tables: &mut [u16], words: usize, ring: u16, k: Kind, slot: u16, a: u16) -> Translation
+    requires { ⌜ slot < 256 ⌝ }
+    requires { ⌜ length (now tables) ≡ 256 ⌝ }
+    ensures { λ x. ⌜ x ≡ judged (entryAt (now (tables .entry)) slot) slot words ring k a ⌝ }
+    ensures { λ x. ⌜ now (tables .exit) ≡ cond (passes x) (set (now (tables .entry)) slot (markOf k (getD (now (tables .entry)) slot 0))) (now (tables .entry)) ⌝ }
+{
+    let i = slot as usize;
+    let e = tables[i];
+    if permitted(e, k) {
+        if e / 512 % 4 <= ring {
+            let p = (e % 512) as usize * 1024 + (a % 1024) as usize;
+            if p < words {
+                tables[i] = mark(k, e);
+                return in_memory(k, p);
+            }
+            return Translation::OutOfRange;
+        }
+        return Translation::Protection(status(k, 0, slot));
+    }
+    refused(e, k, slot)
+}
+
+fn in_window(r: Rights, a: u16) -> bool
+    ensures { λ b. ⌜ b ≡ inWindow r a ⌝ }
+{
+    if 65280 <= a {
+        if r.paging {
+            return r.ring == 3;
+        }
+        return true;
+    }
+    false
+}
+
+// With paging off the address is physical.
+fn unmapped(words: usize, k: Kind, a: u16) -> Translation
+    ensures { λ x. ⌜ x ≡ withinMemory words k a ⌝ }
+{
+    let p = a as usize;
+    if p < words {
+        return in_memory(k, p);
+    }
+    Translation::OutOfRange
+}
+
+// One access.
+pub fn translate(
+    tables: &mut [u16],
+    words: usize,
+    r: Rights,
+    k: Kind,
+    alternate: bool,
+    a: u16,
+) -> Translation
+    requires { ⌜ (r .normal < 4) × (r .alternate < 4) ⌝ }
+    requires { ⌜ length (now tables) ≡ 256 ⌝ }
+    ensures { λ x. ⌜ x ≡ translated (now (tables .entry)) words r (access k alternate a) ⌝ }
+    ensures { λ x. ⌜ now (tables .exit) ≡ marked (now (tables .entry)) words r (access k alternate a) ⌝ }
+{
+    if in_window(r, a) {
+        return in_tables(k, (a % 256) as usize);
+    }
+    if r.paging {
+        return looked_up(tables, words, r.ring, k, slot_of(r, alternate, a), a);
+    }
+    unmapped(words, k, a)
+}
+
+// The ring of the entry of an address by the normal table.
+pub fn ring_at(tables: &[u16], r: Rights, a: u16) -> u16
+    requires { ⌜ (r .normal < 4) × (r .alternate < 4) ⌝ }
+    requires { ⌜ length (now tables) ≡ 256 ⌝ }
+    ensures { λ n. ⌜ n ≡ entryAt (now (tables .entry)) (slotOf (r .normal) a) .ring ⌝ }
+{
+    let i = slot_of(r, false, a) as usize;
+    let e = tables[i];
+    e / 512 % 4
+}

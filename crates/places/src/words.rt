@@ -1,0 +1,114 @@
+// Words read from the places of accesses, and stored to them.
+ghost use mathlib.Core.Path.{_≡_};
+ghost use mathlib.Core.List.{List, _∷_};
+ghost use lib.ListN.{getD, length};
+ghost use Rattle.isa.specs.Pages.{wordsAt, storeAll, lent};
+ghost use Rattle.isa.specs.declared.access.Translation.{Translation as TranslationOf};
+ghost use Rattle.paging.specs.Within.{Within, AllWithin};
+ghost use Rattle.places.specs.Accesses.{placesOf, listOf, restOf};
+use crate::request::Places;
+use isa::access::Translation;
+use paging::place::word_at;
+
+// Up to three words, in order.
+pub struct Words {
+    pub a: u16,
+    pub b: u16,
+    pub c: u16,
+}
+
+// The words at the places, 0 beyond them.
+pub fn read_all(mem: &[u16], tables: &[u16], p: Places) -> Words
+    requires { ⌜ AllWithin (length (now mem)) (placesOf p) ⌝ }
+    requires { ⌜ length (now tables) ≡ 256 ⌝ }
+    ensures { λ w. ⌜ w .a ≡ getD (wordsAt (now (mem .entry)) (now (tables .entry)) (placesOf p)) 0 0 ⌝ }
+    ensures { λ w. ⌜ w .b ≡ getD (wordsAt (now (mem .entry)) (now (tables .entry)) (placesOf p)) 1 0 ⌝ }
+    ensures { λ w. ⌜ w .c ≡ getD (wordsAt (now (mem .entry)) (now (tables .entry)) (placesOf p)) 2 0 ⌝ }
+{
+    match p {
+        Places::Idle => Words { a: 0, b: 0, c: 0 },
+        Places::One(x) => Words {
+            a: word_at(mem, tables, x),
+            b: 0,
+            c: 0,
+        },
+        Places::Two(x, y) => Words {
+            a: word_at(mem, tables, x),
+            b: word_at(mem, tables, y),
+            c: 0,
+        },
+        Places::Three(x, y, z) => Words {
+            a: word_at(mem, tables, x),
+            b: word_at(mem, tables, y),
+            c: word_at(mem, tables, z),
+        },
+        Places::Fault(_) => Words { a: 0, b: 0, c: 0 },
+    }
+}
+
+// The words after the first.
+fn rest(w: Words) -> Words
+    ensures { λ v. ⌜ v ≡ restOf w ⌝ }
+{
+    Words {
+        a: w.b,
+        b: w.c,
+        c: 0,
+    }
+}
+
+// The first word is stored if the place is one to store to; the words that are left.
+fn stored(mem: &mut [u16], tables: &mut [u16], x: Translation, w: Words) -> Words
+    requires { ⌜ Within (length (now mem)) x ⌝ }
+    requires { ⌜ length (now tables) ≡ 256 ⌝ }
+    ensures { λ v. ⌜ ((xs : List TranslationOf) → storeAll (now (mem .exit)) (now (tables .exit)) xs (listOf v) ≡ storeAll (now (mem .entry)) (now (tables .entry)) (x ∷ xs) (listOf w)) ⌝ }
+{
+    match x {
+        Translation::NoAccess => w,
+        Translation::Load(_) => w,
+        Translation::Store(p) => {
+            mem[p] = w.a;
+            rest(w)
+        }
+        Translation::LoadTable(_) => w,
+        Translation::StoreTable(i) => {
+            tables[i] = w.a;
+            rest(w)
+        }
+        Translation::Protection(_) => w,
+        Translation::PageFault(_) => w,
+        Translation::OutOfRange => w,
+    }
+}
+
+// The same at two places.
+fn store_two(mem: &mut [u16], tables: &mut [u16], x: Translation, y: Translation, w: Words) -> Words
+    requires { ⌜ Within (length (now mem)) x × Within (length (now mem)) y ⌝ }
+    requires { ⌜ length (now tables) ≡ 256 ⌝ }
+    ensures { λ v. ⌜ ((xs : List TranslationOf) → storeAll (now (mem .exit)) (now (tables .exit)) xs (listOf v) ≡ storeAll (now (mem .entry)) (now (tables .entry)) (x ∷ y ∷ xs) (listOf w)) ⌝ }
+{
+    let v = stored(mem, tables, x, w);
+    stored(mem, tables, y, v)
+}
+
+// The words are stored at the places to store to, in order.
+pub fn store_all(mem: &mut [u16], tables: &mut [u16], p: Places, w: Words)
+    requires { ⌜ AllWithin (length (now mem)) (placesOf p) ⌝ }
+    requires { ⌜ length (now tables) ≡ 256 ⌝ }
+    ensures { λ _. ⌜ lent (now (mem .exit)) (now (tables .exit)) ≡ storeAll (now (mem .entry)) (now (tables .entry)) (placesOf p) (listOf w) ⌝ }
+{
+    match p {
+        Places::Idle => {}
+        Places::One(x) => {
+            stored(mem, tables, x, w);
+        }
+        Places::Two(x, y) => {
+            store_two(mem, tables, x, y, w);
+        }
+        Places::Three(x, y, z) => {
+            let v = store_two(mem, tables, x, y, w);
+            stored(mem, tables, z, v);
+        }
+        Places::Fault(_) => {}
+    }
+}
