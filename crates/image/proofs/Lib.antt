@@ -1,0 +1,5 @@
+pub mod Laws
+pub mod Written
+pub mod Listed
+pub mod Placed
+pub mod Called
