@@ -1,4 +1,4 @@
--- Parts, copies and the image's words one after the other.
+-- Parts, copies, answers and sizes.
 -- Assumes nothing.
 use Prim.Native.Nat.{ℕ, _+_, _-_, _%_, _≤_, _<_}
 use mathlib.Core.Path.{_≡_, refl, sym, ap, _∙_}

@@ -12,13 +12,24 @@ returns c =
     let f = c .before .before .before .before .before .before .before .before .before in
     let k = f .before .before .before in
     let a = k .before .before .before .before .before .before .args in
-    load-is (a .s) (a .image .now) (a .mem .now) (a .tables .now) (k .image-answer .result) (f .first .result) (f .before .before .image-state .result) (c .left-by .result) _ _ (k .image-answer .ensures) (f .before .before .image-state .ensures) (f .first .ensures ∙ ap (firstOf (k .image-answer .result)) (f .before .range-answer .ensures)) (c .left-by .ensures .0) (c .left-by .ensures .1) (c .before .before .before .before .before .before .before .store .ensures) (c .before .before .before .store2 .ensures)
+    let b = f .first .ensures ∙ ap (firstOf (k .image-answer .result)) (f .before .range-answer .ensures) in
+    load-is (a .s) (a .image .now) (a .mem .now) (a .tables .now) (k .image-answer .result) (f .first .result) (f .before .before .image-state .result) (c .left-by .result) _ _
+    (k .image-answer .ensures)
+    (f .before .before .image-state .ensures)
+    b
+    (c .left-by .ensures .0)
+    (c .left-by .ensures .1)
+    (c .before .before .before .before .before .before .before .store .ensures)
+    (c .before .before .before .store2 .ensures)
 
 image-answer-requires : tie.Need-image-answer-requires
 image-answer-requires c κs = search needs
 
 image-state-requires : tie.Need-image-state-requires
-image-state-requires c κs = λ e. let a = c .before .before .before .before .before .before .args in let p = sym (c .image-answer .ensures) ∙ e in (placeable (a .image .now) (a .mem .now) (a .tables .now) p 2, placeable (a .image .now) (a .mem .now) (a .tables .now) p 3)
+image-state-requires c κs = λ e.
+    let a = c .before .before .before .before .before .before .args in
+    let p = sym (c .image-answer .ensures) ∙ e in
+    (placeable (a .image .now) (a .mem .now) (a .tables .now) p 2, placeable (a .image .now) (a .mem .now) (a .tables .now) p 3)
 
 range-answer-requires : tie.Need-range-answer-requires
 range-answer-requires c κs = search needs
