@@ -52,9 +52,9 @@ tablesOf e f = e ∷ f ∷ replicate 254 0
 abbrev pub bare : ℕ → ℕ → ℕ → ℕ → ℕ → ℕ → Turn
 bare d b a t w v = step (start d b a t 0 0) (memoryOf w v) (replicate 256 0)
 
--- one step on ring 1 with paging on, by the first two entries of table 0
-abbrev pub paged : ℕ → ℕ → ℕ → Turn
-paged w e f = step (start 0 0 0 0 1 1) (memoryOf w 0) (tablesOf e f)
+-- one step on ring 1 with paging on, by the first two entries e and f of table 0
+abbrev pub paged : ℕ → ℕ → ℕ → ℕ → Turn
+paged w v e f = step (start 0 0 0 0 1 1) (memoryOf w v) (tablesOf e f)
 
 -- ---- what is looked at: register n of level 0; STS and A; the interrupt, PGS and the first two entries
 
@@ -102,12 +102,12 @@ cases =
     -- RDIV by 0: 5. The divisor is T; A and D stay, Z is set.
     ∷ (let r = bare 3 0 7 0 0o141660 0 in r .gave ∷ register 1 r ∷ flagsAndA r, 5 ∷ 3 ∷ 0o10 ∷ 7 ∷ [])
     -- Entry 000000: 3. The fetch fails: PGS bits 15 and 14, no mark.
-    ∷ (faultSeen (paged 0 0 0), 3 ∷ 0o140000 ∷ 0 ∷ 0 ∷ [])
+    ∷ (faultSeen (paged 0 0 0 0), 3 ∷ 0o140000 ∷ 0 ∷ 0 ∷ [])
     -- Store by entry 040000: 2, PGS bit 14 set. STA 2000 (indirect, by the next word) in virtual page 1; only the fetch's page
     -- and the indirect word's are marked.
-    ∷ (faultSeen (step (start 0 0 0 0 1 1) (memoryOf 0o005001 0o002000) (tablesOf 0o060000 0o040000)), 2 ∷ 0o040001 ∷ 0o064000 ∷ 0o040000 ∷ [])
+    ∷ (faultSeen (paged 0o005001 0o002000 0o060000 0o040000), 2 ∷ 0o040001 ∷ 0o064000 ∷ 0o040000 ∷ [])
     -- Ring 1 read by entry 163000: 2, bit 14 clear.
-    ∷ (faultSeen (step (start 0 0 0 0 1 1) (memoryOf 0o045001 0o002000) (tablesOf 0o060000 0o163000)), 2 ∷ 1 ∷ 0o064000 ∷ 0o163000 ∷ [])
+    ∷ (faultSeen (paged 0o045001 0o002000 0o060000 0o163000), 2 ∷ 1 ∷ 0o064000 ∷ 0o163000 ∷ [])
     ∷ []
 
 -- the columns of a table: what the definitions give, and what is stated
