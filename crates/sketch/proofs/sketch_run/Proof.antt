@@ -8,43 +8,33 @@ use Rattle.sketch.proofs.run.closed.Reads as closed-reads
 use Rattle.sketch.proofs.run.opened.Reads as opened-reads
 use Rattle.sketch.proofs.run.run_in.Reads as run-in-reads
 
--- src/lib.rt:34:17
 slice-read-level : tie.Need-slice-read-level
 slice-read-level c = search needs
 
--- src/lib.rt:35:9
 opened-requires : tie.Need-opened-requires
 opened-requires c κs = search needs
 
--- src/lib.rt:36:9
 run-in-requires : tie.Need-run-in-requires
 run-in-requires c κs = search needs
 
--- src/lib.rt:37:5
 closed-requires : tie.Need-closed-requires
 closed-requires c κs = (c .before .before .before .before .before .before .before .before .before .before .before .run-in .ensures, (c .before .before .before .before .before .before .before .before .before .before .before .run-in .kept .1 .1 .0 ∙ c .before .before .before .before .before .before .before .before .before .before .before .before .before .before .before .before .before .before .before .before .before .before .before .before .before .before .pre .0, (c .before .before .before .before .before .before .before .before .before .before .before .before .before .before .before .before .before .before .before .before .before .before .before .before .before .before .pre .1 .0, c .before .before .before .before .before .before .before .before .before .before .before .run-in .kept .1 .1 .1 .0 ∙ c .before .before .before .before .before .before .before .before .before .before .before .before .before .before .before .before .before .before .before .before .before .before .before .before .before .before .pre .1 .1 .0)))
 
--- src/lib.rt:19:1
 same-length : tie.Need-same-length
 same-length c = search needs
 
--- src/lib.rt:19:1
 same-length-2 : tie.Need-same-length-2
 same-length-2 c = search needs
 
--- src/lib.rt:19:1
 same-length-3 : tie.Need-same-length-3
 same-length-3 c = search needs
 
--- src/lib.rt:19:1
 same-length-4 : tie.Need-same-length-4
 same-length-4 c = search needs
 
--- src/lib.rt:19:1
 same-length-5 : tie.Need-same-length-5
 same-length-5 c = search needs
 
--- src/lib.rt:19:1
 returns : tie.Need-returns
 returns c = search needs
 

@@ -12,63 +12,48 @@ use Rattle.sketch.proofs.far.turned.Reads as turned-reads
 use Rattle.sketch.proofs.pages.fault_of.Reads as fault-of-reads
 use Rattle.sketch.proofs.stages.faulted.Reads as faulted-reads
 
--- src/far.rt:311:54
 get-requires : tie.Need-get-requires
 get-requires c κs = search needs
 
--- src/far.rt:311:9
 block-tested-requires : tie.Need-block-tested-requires
 block-tested-requires c κs = search needs
 
--- src/far.rt:314:8
 fault-of-requires : tie.Need-fault-of-requires
 fault-of-requires c κs = search needs
 
--- src/far.rt:315:9
 put-file-requires : tie.Need-put-file-requires
 put-file-requires c κs = search needs
 
--- src/far.rt:316:9
 load-block-requires : tie.Need-load-block-requires
 load-block-requires c κs = search needs
 
--- src/far.rt:317:23
 reload-requires : tie.Need-reload-requires
 reload-requires c κs = search needs
 
--- src/far.rt:317:9
 turned-requires : tie.Need-turned-requires
 turned-requires c κs = search needs
 
--- src/far.rt:317:9
 same-length : tie.Need-same-length
 same-length c = search needs
 
--- src/far.rt:317:9
 same-length-2 : tie.Need-same-length-2
 same-length-2 c = c .before .before .before .before .before .before .before .before .before .before .before .before .before .before .before .before .before .block-tested .kept .1 .1 .0
 
--- src/far.rt:317:9
 returns : tie.Need-returns
 returns c = search needs
 
--- src/far.rt:319:12
 faulted-requires : tie.Need-faulted-requires
 faulted-requires c κs = search needs
 
--- src/far.rt:319:35
 fault-of-requires-2 : tie.Need-fault-of-requires-2
 fault-of-requires-2 c κs = search needs
 
--- src/far.rt:319:5
 turned-requires-2 : tie.Need-turned-requires-2
 turned-requires-2 c κs = search needs
 
--- src/far.rt:298:1
 same-length-3 : tie.Need-same-length-3
 same-length-3 c = search needs
 
--- src/far.rt:298:1
 returns-2 : tie.Need-returns-2
 returns-2 c = search needs
 

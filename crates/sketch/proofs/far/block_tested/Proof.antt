@@ -18,63 +18,48 @@ Inv-loop mem tables₀ k a words r places₀ at₀ i₀ tables places at i = (i 
 abbrev μ-loop : tie.MeasureT-loop
 μ-loop mem tables₀ k a words r places₀ at₀ i₀ tables places at i = 8 - i
 
--- src/far.rt:204:9
 rights-of-requires : tie.Need-rights-of-requires Inv-loop μ-loop
 rights-of-requires c κs = search needs
 
--- src/far.rt:208:5
 loop-holds : tie.Need-loop-holds Inv-loop μ-loop
 loop-holds c = search needs
 
--- src/far.rt:209:13
 translate-requires : tie.Need-translate-requires Inv-loop μ-loop
 translate-requires c κs = search needs
 
--- src/far.rt:210:12
 fault-of-requires : tie.Need-fault-of-requires Inv-loop μ-loop
 fault-of-requires c κs = search needs
 
--- src/far.rt:211:13
 same-length : tie.Need-same-length Inv-loop μ-loop
 same-length c = search needs
 
--- src/far.rt:211:13
 returns : tie.Need-returns Inv-loop μ-loop
 returns c = search needs
 
--- src/far.rt:216:21
 number-requires : tie.Need-number-requires Inv-loop μ-loop
 number-requires c κs = search needs
 
--- src/far.rt:216:9
 mul-places : tie.Need-mul-places Inv-loop μ-loop
 mul-places c = search needs
 
--- src/far.rt:216:9
 array-write-places : tie.Need-array-write-places Inv-loop μ-loop
 array-write-places c = search needs
 
--- src/far.rt:217:9
 wrapping-add-u16-requires : tie.Need-wrapping-add-u16-requires Inv-loop μ-loop
 wrapping-add-u16-requires c κs = search needs
 
--- src/far.rt:218:9
 add-i : tie.Need-add-i Inv-loop μ-loop
 add-i c = search needs
 
--- src/far.rt:208:5
 loop-less : tie.Need-loop-less Inv-loop μ-loop
 loop-less c = search needs
 
--- src/far.rt:208:5
 loop-again : tie.Need-loop-again Inv-loop μ-loop
 loop-again c = search needs
 
--- src/far.rt:200:1
 same-length-2 : tie.Need-same-length-2 Inv-loop μ-loop
 same-length-2 c = search needs
 
--- src/far.rt:200:1
 returns-2 : tie.Need-returns-2 Inv-loop μ-loop
 returns-2 c = search needs
 

@@ -8,23 +8,18 @@ use Rattle.sketch.proofs.far.called.Lts as lts
 use Rattle.sketch.proofs.far.put_file.Reads as put-file-reads
 use Rattle.sketch.proofs.far.reload.Reads as reload-reads
 
--- src/far.rt:106:5
 put-file-requires : tie.Need-put-file-requires
 put-file-requires c κs = search needs
 
--- src/far.rt:107:5
 slice-write-regs : tie.Need-slice-write-regs
 slice-write-regs c = search needs
 
--- src/far.rt:108:5
 reload-requires : tie.Need-reload-requires
 reload-requires c κs = (c .before .before .before .before .before .before .before .pre .0, simp length-set (c .before .before .before .put-file .kept .0 ∙ c .before .before .before .before .before .before .before .pre .1))
 
--- src/far.rt:101:1
 same-length : tie.Need-same-length
 same-length c = search needs
 
--- src/far.rt:101:1
 returns : tie.Need-returns
 returns c = search needs
 

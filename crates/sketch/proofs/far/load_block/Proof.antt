@@ -16,47 +16,36 @@ Inv-loop level regs₀ mem tables l places i₀ regs i = (i ≤ 8) × (length re
 abbrev μ-loop : tie.MeasureT-loop
 μ-loop level regs₀ mem tables l places i₀ regs i = 8 - i
 
--- src/far.rt:264:5
 loop-holds : tie.Need-loop-holds Inv-loop μ-loop
 loop-holds c = search needs
 
--- src/far.rt:269:13
 block-register-requires : tie.Need-block-register-requires Inv-loop μ-loop
 block-register-requires c κs = search needs
 
--- src/far.rt:270:34
 mul-word-at : tie.Need-mul-word-at Inv-loop μ-loop
 mul-word-at c = search needs
 
--- src/far.rt:270:34
 array-read-word-at : tie.Need-array-read-word-at Inv-loop μ-loop
 array-read-word-at c = search needs
 
--- src/far.rt:270:13
 word-at-requires : tie.Need-word-at-requires Inv-loop μ-loop
 word-at-requires c κs = search needs
 
--- src/far.rt:265:9
 put-other-requires : tie.Need-put-other-requires Inv-loop μ-loop
 put-other-requires c κs = search needs
 
--- src/far.rt:272:9
 add-i : tie.Need-add-i Inv-loop μ-loop
 add-i c = search needs
 
--- src/far.rt:264:5
 loop-less : tie.Need-loop-less Inv-loop μ-loop
 loop-less c = search needs
 
--- src/far.rt:264:5
 loop-again : tie.Need-loop-again Inv-loop μ-loop
 loop-again c = search needs
 
--- src/far.rt:259:1
 same-length : tie.Need-same-length Inv-loop μ-loop
 same-length c = search needs
 
--- src/far.rt:259:1
 returns : tie.Need-returns Inv-loop μ-loop
 returns c = search needs
 

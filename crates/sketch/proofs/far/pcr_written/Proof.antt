@@ -9,55 +9,42 @@ use Rattle.isa.proofs.machine.File.get.Reads as get-reads
 use Rattle.sketch.proofs.far.pcr_place.Reads as pcr-place-reads
 use Rattle.isa.proofs.machine.Core.with_pcr.Reads as with-pcr-reads
 
--- src/far.rt:156:5
 mul-pcrs : tie.Need-mul-pcrs
 mul-pcrs c = search needs
 
--- src/far.rt:156:5
 slice-write-pcrs : tie.Need-slice-write-pcrs
 slice-write-pcrs c = search needs
 
--- src/far.rt:158:9
 pcr-place-requires : tie.Need-pcr-place-requires
 pcr-place-requires c κs = search needs
 
--- src/far.rt:159:9
 get-requires : tie.Need-get-requires
 get-requires c κs = search needs
 
--- src/far.rt:160:15
 mul-pcrs-2 : tie.Need-mul-pcrs-2
 mul-pcrs-2 c = search needs
 
--- src/far.rt:160:15
 add-pcrs : tie.Need-add-pcrs
 add-pcrs c = search needs
 
--- src/far.rt:160:5
 mul-pcrs-3 : tie.Need-mul-pcrs-3
 mul-pcrs-3 c = search needs
 
--- src/far.rt:160:5
 slice-write-pcrs-2 : tie.Need-slice-write-pcrs-2
 slice-write-pcrs-2 c = search needs
 
--- src/far.rt:161:17
 mul-with-pcr : tie.Need-mul-with-pcr
 mul-with-pcr c = search needs
 
--- src/far.rt:161:17
 slice-read-with-pcr : tie.Need-slice-read-with-pcr
 slice-read-with-pcr c = simp length-set (omega (arith, c .before .before .before .before .before .pre))
 
--- src/far.rt:161:5
 with-pcr-requires : tie.Need-with-pcr-requires
 with-pcr-requires c κs = search needs
 
--- src/far.rt:151:1
 same-length : tie.Need-same-length
 same-length c = search needs
 
--- src/far.rt:151:1
 returns : tie.Need-returns
 returns c = search needs
 

@@ -9,43 +9,33 @@ use Rattle.sketch.proofs.far.place.Reads as place-reads
 use Rattle.sketch.proofs.far.put_file.Reads as put-file-reads
 use Rattle.sketch.proofs.far.reload.Reads as reload-reads
 
--- src/far.rt:116:5
 put-file-requires : tie.Need-put-file-requires
 put-file-requires c κs = search needs
 
--- src/far.rt:117:9
 place-requires : tie.Need-place-requires
 place-requires c κs = search needs
 
--- src/far.rt:118:9
 place-requires-2 : tie.Need-place-requires-2
 place-requires-2 c κs = search needs
 
--- src/far.rt:119:15
 mul-regs : tie.Need-mul-regs
 mul-regs c = search needs
 
--- src/far.rt:119:15
 slice-read-regs : tie.Need-slice-read-regs
 slice-read-regs c = search needs
 
--- src/far.rt:119:5
 mul-regs-2 : tie.Need-mul-regs-2
 mul-regs-2 c = search needs
 
--- src/far.rt:119:5
 slice-write-regs : tie.Need-slice-write-regs
 slice-write-regs c = search needs
 
--- src/far.rt:120:5
 reload-requires : tie.Need-reload-requires
 reload-requires c κs = (c .before .before .before .before .before .before .before .before .before .before .pre .0, simp length-set (c .before .before .before .before .before .before .put-file .kept .0 ∙ c .before .before .before .before .before .before .before .before .before .before .pre .1))
 
--- src/far.rt:111:1
 same-length : tie.Need-same-length
 same-length c = search needs
 
--- src/far.rt:111:1
 returns : tie.Need-returns
 returns c = search needs
 

@@ -16,59 +16,45 @@ Inv-loop regs mem₀ tables₀ l places i₀ mem tables i = (i ≤ 8) × ((lengt
 abbrev μ-loop : tie.MeasureT-loop
 μ-loop regs mem₀ tables₀ l places i₀ mem tables i = 8 - i
 
--- src/far.rt:252:5
 loop-holds : tie.Need-loop-holds Inv-loop μ-loop
 loop-holds c = search needs
 
--- src/far.rt:253:26
 block-register-requires : tie.Need-block-register-requires Inv-loop μ-loop
 block-register-requires c κs = search needs
 
--- src/far.rt:253:13
 place-requires : tie.Need-place-requires Inv-loop μ-loop
 place-requires c κs = search needs
 
--- src/far.rt:254:29
 mul-put-at : tie.Need-mul-put-at Inv-loop μ-loop
 mul-put-at c = search needs
 
--- src/far.rt:254:29
 array-read-put-at : tie.Need-array-read-put-at Inv-loop μ-loop
 array-read-put-at c = search needs
 
--- src/far.rt:254:40
 mul-put-at-2 : tie.Need-mul-put-at-2 Inv-loop μ-loop
 mul-put-at-2 c = search needs
 
--- src/far.rt:254:40
 shared-slice-read-put-at : tie.Need-shared-slice-read-put-at Inv-loop μ-loop
 shared-slice-read-put-at c = search needs
 
--- src/far.rt:254:9
 put-at-requires : tie.Need-put-at-requires Inv-loop μ-loop
 put-at-requires c κs = search needs
 
--- src/far.rt:255:9
 add-i : tie.Need-add-i Inv-loop μ-loop
 add-i c = search needs
 
--- src/far.rt:252:5
 loop-less : tie.Need-loop-less Inv-loop μ-loop
 loop-less c = search needs
 
--- src/far.rt:252:5
 loop-again : tie.Need-loop-again Inv-loop μ-loop
 loop-again c = search needs
 
--- src/far.rt:247:1
 same-length : tie.Need-same-length Inv-loop μ-loop
 same-length c = search needs
 
--- src/far.rt:247:1
 same-length-2 : tie.Need-same-length-2 Inv-loop μ-loop
 same-length-2 c = search needs
 
--- src/far.rt:247:1
 returns : tie.Need-returns Inv-loop μ-loop
 returns c = search needs
 

@@ -15,30 +15,24 @@ enum-told c = search needs
 enum-told-2 : tie.Need-enum-told-2
 enum-told-2 c = search needs
 
--- src/pages.rt:245:28
 enum-known-x : tie.Need-enum-known-x
 enum-known-x c = search needs
 
--- src/pages.rt:246:13
 mul-mem : tie.Need-mul-mem
 mul-mem c = let h : c .before .x .given .0 .0 < length (c .before .before .before .args .mem .now) = subst (Within (length (c .before .before .before .args .mem .now))) (c .before .x .given .1) (c .before .before .before .pre .0) in omega arith
 
--- src/pages.rt:246:13
 slice-write-mem : tie.Need-slice-write-mem
 slice-write-mem c = subst (Within (length (c .before .before .before .args .mem .now))) (c .before .x .given .1) (c .before .before .before .pre .0)
 
 enum-told-3 : tie.Need-enum-told-3
 enum-told-3 c = search needs
 
--- src/pages.rt:249:33
 enum-known-x-2 : tie.Need-enum-known-x-2
 enum-known-x-2 c = search needs
 
--- src/pages.rt:250:13
 mul-tables : tie.Need-mul-tables
 mul-tables c = let h : c .before .x2 .given .0 .0 < 256 = subst (Within (length (c .before .before .before .args .mem .now))) (c .before .x2 .given .1) (c .before .before .before .pre .0) in omega arith
 
--- src/pages.rt:250:13
 slice-write-tables : tie.Need-slice-write-tables
 slice-write-tables c = let h : c .before .x2 .given .0 .0 < 256 = subst (Within (length (c .before .before .before .args .mem .now))) (c .before .x2 .given .1) (c .before .before .before .pre .0) in omega (arith, c .before .before .before .pre .1)
 
@@ -51,43 +45,33 @@ enum-told-5 c = search needs
 enum-told-6 : tie.Need-enum-told-6
 enum-told-6 c = search needs
 
--- src/pages.rt:238:1
 returns : tie.Need-returns
 returns c = search needs
 
--- src/pages.rt:238:1
 returns-2 : tie.Need-returns-2
 returns-2 c = search needs
 
--- src/pages.rt:238:1
 same-length : tie.Need-same-length
 same-length c = search needs
 
--- src/pages.rt:238:1
 returns-3 : tie.Need-returns-3
 returns-3 c = search needs
 
--- src/pages.rt:238:1
 returns-4 : tie.Need-returns-4
 returns-4 c = search needs
 
--- src/pages.rt:238:1
 same-length-2 : tie.Need-same-length-2
 same-length-2 c = search needs
 
--- src/pages.rt:238:1
 returns-5 : tie.Need-returns-5
 returns-5 c = search needs
 
--- src/pages.rt:238:1
 returns-6 : tie.Need-returns-6
 returns-6 c = search needs
 
--- src/pages.rt:238:1
 returns-7 : tie.Need-returns-7
 returns-7 c = search needs
 
--- src/pages.rt:238:1
 returns-8 : tie.Need-returns-8
 returns-8 c = search needs
 

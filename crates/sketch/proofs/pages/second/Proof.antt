@@ -8,39 +8,30 @@ use Rattle.sketch.proofs.pages.fault_of.Reads as fault-of-reads
 use Rattle.sketch.proofs.pages.third.Reads as third-reads
 use Rattle.sketch.proofs.pages.translate.Reads as translate-reads
 
--- src/pages.rt:305:9
 translate-requires : tie.Need-translate-requires
 translate-requires c κs = search needs
 
--- src/pages.rt:306:8
 fault-of-requires : tie.Need-fault-of-requires
 fault-of-requires c κs = search needs
 
--- src/pages.rt:308:13
 third-requires : tie.Need-third-requires
 third-requires c κs = (c .before .before .before .before .before .before .before .before .before .pre .0, (c .before .before .before .before .before .before .translate .kept .0 ∙ c .before .before .before .before .before .before .before .before .before .pre .1 .0, (c .before .before .before .before .before .before .before .before .before .pre .1 .1, c .before .before .before .before .before .before .translate .ensures)))
 
--- src/pages.rt:308:13
 same-length : tie.Need-same-length
 same-length c = search needs
 
--- src/pages.rt:308:13
 returns : tie.Need-returns
 returns c = search needs
 
--- src/pages.rt:310:9
 same-length-2 : tie.Need-same-length-2
 same-length-2 c = search needs
 
--- src/pages.rt:310:9
 returns-2 : tie.Need-returns-2
 returns-2 c = search needs
 
--- src/pages.rt:289:1
 same-length-3 : tie.Need-same-length-3
 same-length-3 c = search needs
 
--- src/pages.rt:289:1
 returns-3 : tie.Need-returns-3
 returns-3 c = search needs
 

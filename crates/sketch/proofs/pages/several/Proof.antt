@@ -9,35 +9,27 @@ use Rattle.sketch.proofs.pages.second.Reads as second-reads
 use Rattle.sketch.proofs.pages.translate.Reads as translate-reads
 use Rattle.std.proofs.num.wrapping_add_u16.Reads as wrapping-add-u16-reads
 
--- src/pages.rt:329:9
 translate-requires : tie.Need-translate-requires
 translate-requires c κs = search needs
 
--- src/pages.rt:330:8
 fault-of-requires : tie.Need-fault-of-requires
 fault-of-requires c κs = search needs
 
--- src/pages.rt:332:13
 same-length : tie.Need-same-length
 same-length c = search needs
 
--- src/pages.rt:332:13
 returns : tie.Need-returns
 returns c = search needs
 
--- src/pages.rt:341:13
 wrapping-add-u16-requires : tie.Need-wrapping-add-u16-requires
 wrapping-add-u16-requires c κs = search needs
 
--- src/pages.rt:334:9
 second-requires : tie.Need-second-requires
 second-requires c κs = (c .before .before .before .before .before .before .before .before .before .pre .0, (c .before .before .before .before .before .before .translate .kept .0 ∙ c .before .before .before .before .before .before .before .before .before .pre .1, c .before .before .before .before .before .before .translate .ensures))
 
--- src/pages.rt:334:9
 same-length-2 : tie.Need-same-length-2
 same-length-2 c = search needs
 
--- src/pages.rt:334:9
 returns-2 : tie.Need-returns-2
 returns-2 c = search needs
 

@@ -7,31 +7,24 @@ use Rattle.sketch.proofs.pages.fault_of.Reads as fault-of-reads
 use Rattle.sketch.proofs.pages.translate.Reads as translate-reads
 use Rattle.std.proofs.num.wrapping_add_u16.Reads as wrapping-add-u16-reads
 
--- src/pages.rt:280:9
 wrapping-add-u16-requires : tie.Need-wrapping-add-u16-requires
 wrapping-add-u16-requires c κs = search needs
 
--- src/pages.rt:274:9
 translate-requires : tie.Need-translate-requires
 translate-requires c κs = search needs
 
--- src/pages.rt:282:8
 fault-of-requires : tie.Need-fault-of-requires
 fault-of-requires c κs = search needs
 
--- src/pages.rt:283:9
 same-length : tie.Need-same-length
 same-length c = search needs
 
--- src/pages.rt:283:9
 returns : tie.Need-returns
 returns c = (c .before .before .before .before .before .before .before .before .pre .1 .1 .0, (c .before .before .before .before .before .before .before .before .pre .1 .1 .1, c .before .before .before .before .translate .ensures))
 
--- src/pages.rt:259:1
 same-length-2 : tie.Need-same-length-2
 same-length-2 c = search needs
 
--- src/pages.rt:259:1
 returns-2 : tie.Need-returns-2
 returns-2 c = search needs
 

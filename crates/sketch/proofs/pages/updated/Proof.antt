@@ -8,31 +8,24 @@ use Rattle.sketch.proofs.pages.fault_of.Reads as fault-of-reads
 use Rattle.sketch.proofs.pages.second.Reads as second-reads
 use Rattle.sketch.proofs.pages.translate.Reads as translate-reads
 
--- src/pages.rt:355:9
 translate-requires : tie.Need-translate-requires
 translate-requires c κs = search needs
 
--- src/pages.rt:356:8
 fault-of-requires : tie.Need-fault-of-requires
 fault-of-requires c κs = search needs
 
--- src/pages.rt:357:9
 second-requires : tie.Need-second-requires
 second-requires c κs = (c .before .before .before .before .before .before .before .before .pre .0, (c .before .before .before .before .before .translate .kept .0 ∙ c .before .before .before .before .before .before .before .before .pre .1, c .before .before .before .before .before .translate .ensures))
 
--- src/pages.rt:357:9
 same-length : tie.Need-same-length
 same-length c = search needs
 
--- src/pages.rt:357:9
 returns : tie.Need-returns
 returns c = search needs
 
--- src/pages.rt:350:1
 same-length-2 : tie.Need-same-length-2
 same-length-2 c = search needs
 
--- src/pages.rt:350:1
 returns-2 : tie.Need-returns-2
 returns-2 c = search needs
 

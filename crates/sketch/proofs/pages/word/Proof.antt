@@ -9,83 +9,63 @@ use Rattle.sketch.proofs.pages.word.Tie as tie
 use Rattle.sketch.proofs.pages.word.Reads as reads
 use Rattle.sketch.proofs.pages.word.Lts as lts
 
--- src/pages.rt:226:34
 enum-told : tie.Need-enum-told
 enum-told c = search needs
 
--- src/pages.rt:227:27
 enum-known-x : tie.Need-enum-known-x
 enum-known-x c = search needs
 
--- src/pages.rt:227:33
 mul-result : tie.Need-mul-result
 mul-result c = let h : c .before .x .given .0 .0 < length (c .before .before .before .args .mem .now) = subst (Within (length (c .before .before .before .args .mem .now))) (c .before .x .given .1) (c .before .before .before .pre .0) in omega arith
 
--- src/pages.rt:227:33
 shared-slice-read-result : tie.Need-shared-slice-read-result
 shared-slice-read-result c = subst (Within (length (c .before .before .before .before .args .mem .now))) (c .before .before .x .given .1) (c .before .before .before .before .pre .0)
 
--- src/pages.rt:228:34
 enum-told-2 : tie.Need-enum-told-2
 enum-told-2 c = search needs
 
--- src/pages.rt:229:32
 enum-known-x-2 : tie.Need-enum-known-x-2
 enum-known-x-2 c = search needs
 
--- src/pages.rt:229:38
 mul-result-2 : tie.Need-mul-result-2
 mul-result-2 c = let h : c .before .x2 .given .0 .0 < 256 = subst (Within (length (c .before .before .before .args .mem .now))) (c .before .x2 .given .1) (c .before .before .before .pre .0) in omega arith
 
--- src/pages.rt:229:38
 shared-slice-read-result-2 : tie.Need-shared-slice-read-result-2
 shared-slice-read-result-2 c = let h : c .before .before .x2 .given .0 .0 < 256 = subst (Within (length (c .before .before .before .before .args .mem .now))) (c .before .before .x2 .given .1) (c .before .before .before .before .pre .0) in omega (arith, c .before .before .before .before .pre .1)
 
--- src/pages.rt:230:39
 enum-told-3 : tie.Need-enum-told-3
 enum-told-3 c = search needs
 
--- src/pages.rt:231:39
 enum-told-4 : tie.Need-enum-told-4
 enum-told-4 c = search needs
 
--- src/pages.rt:232:38
 enum-told-5 : tie.Need-enum-told-5
 enum-told-5 c = search needs
 
--- src/pages.rt:233:36
 enum-told-6 : tie.Need-enum-told-6
 enum-told-6 c = search needs
 
--- src/pages.rt:221:1
 returns : tie.Need-returns
 returns c = search needs
 
--- src/pages.rt:221:1
 returns-2 : tie.Need-returns-2
 returns-2 c = search needs
 
--- src/pages.rt:221:1
 returns-3 : tie.Need-returns-3
 returns-3 c = search needs
 
--- src/pages.rt:221:1
 returns-4 : tie.Need-returns-4
 returns-4 c = search needs
 
--- src/pages.rt:221:1
 returns-5 : tie.Need-returns-5
 returns-5 c = search needs
 
--- src/pages.rt:221:1
 returns-6 : tie.Need-returns-6
 returns-6 c = search needs
 
--- src/pages.rt:221:1
 returns-7 : tie.Need-returns-7
 returns-7 c = search needs
 
--- src/pages.rt:221:1
 returns-8 : tie.Need-returns-8
 returns-8 c = search needs
 

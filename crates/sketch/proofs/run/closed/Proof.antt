@@ -8,83 +8,63 @@ use Rattle.sketch.proofs.run.closed.Lts as lts
 use Rattle.sketch.proofs.far.put_file.Reads as put-file-reads
 use Rattle.sketch.proofs.run.number.Reads as number-reads
 
--- src/run.rt:200:13
 cast-i : tie.Need-cast-i
 cast-i c = search needs
 
--- src/run.rt:201:5
 put-file-requires : tie.Need-put-file-requires
 put-file-requires c κs = search needs
 
--- src/run.rt:202:5
 mul-pcrs : tie.Need-mul-pcrs
 mul-pcrs c = search needs
 
--- src/run.rt:202:5
 slice-write-pcrs : tie.Need-slice-write-pcrs
 slice-write-pcrs c = search needs
 
--- src/run.rt:203:5
 slice-write-control : tie.Need-slice-write-control
 slice-write-control c = search needs
 
--- src/run.rt:204:5
 slice-write-control-2 : tie.Need-slice-write-control-2
 slice-write-control-2 c = simp length-set (omega (arith, c .before .before .before .before .before .before .before .before .before .before .pre))
 
--- src/run.rt:205:5
 slice-write-control-3 : tie.Need-slice-write-control-3
 slice-write-control-3 c = simp length-set (omega (arith, c .before .before .before .before .before .before .before .before .before .before .pre))
 
--- src/run.rt:206:5
 slice-write-control-4 : tie.Need-slice-write-control-4
 slice-write-control-4 c = simp length-set (omega (arith, c .before .before .before .before .before .before .before .before .before .before .pre))
 
--- src/run.rt:207:5
 slice-write-control-5 : tie.Need-slice-write-control-5
 slice-write-control-5 c = simp length-set (omega (arith, c .before .before .before .before .before .before .before .before .before .before .pre))
 
--- src/run.rt:208:5
 slice-write-control-6 : tie.Need-slice-write-control-6
 slice-write-control-6 c = simp length-set (omega (arith, c .before .before .before .before .before .before .before .before .before .before .pre))
 
--- src/run.rt:209:5
 slice-write-control-7 : tie.Need-slice-write-control-7
 slice-write-control-7 c = simp length-set (omega (arith, c .before .before .before .before .before .before .before .before .before .before .pre))
 
--- src/run.rt:210:5
 slice-write-control-8 : tie.Need-slice-write-control-8
 slice-write-control-8 c = simp length-set (omega (arith, c .before .before .before .before .before .before .before .before .before .before .pre))
 
--- src/run.rt:211:5
 slice-write-control-9 : tie.Need-slice-write-control-9
 slice-write-control-9 c = simp length-set (omega (arith, c .before .before .before .before .before .before .before .before .before .before .pre))
 
--- src/run.rt:212:5
 slice-write-control-10 : tie.Need-slice-write-control-10
 slice-write-control-10 c = simp length-set (omega (arith, c .before .before .before .before .before .before .before .before .before .before .pre))
 
--- src/run.rt:213:19
 number-requires : tie.Need-number-requires
 number-requires c κs = search needs
 
--- src/run.rt:213:5
 slice-write-control-11 : tie.Need-slice-write-control-11
 slice-write-control-11 c = simp length-set (omega (arith, c .before .before .before .before .before .before .before .before .before .before .before .pre))
 
--- src/run.rt:189:1
 same-length : tie.Need-same-length
 same-length c = search needs
 
--- src/run.rt:189:1
 same-length-2 : tie.Need-same-length-2
 same-length-2 c = simp length-set
 
--- src/run.rt:189:1
 same-length-3 : tie.Need-same-length-3
 same-length-3 c = search needs
 
--- src/run.rt:189:1
 returns : tie.Need-returns
 returns c = search needs
 

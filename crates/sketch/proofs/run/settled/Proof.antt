@@ -7,31 +7,24 @@ use Rattle.sketch.proofs.run.settled.Lts as lts
 use Rattle.sketch.proofs.far.settle.Reads as settle-reads
 use Rattle.sketch.proofs.stages.settled.Reads as settled-reads
 
--- src/run.rt:102:9
 settled-requires : tie.Need-settled-requires
 settled-requires c κs = search needs
 
--- src/run.rt:103:9
 settle-requires : tie.Need-settle-requires
 settle-requires c κs = search needs
 
--- src/run.rt:80:1
 same-length : tie.Need-same-length
 same-length c = search needs
 
--- src/run.rt:80:1
 same-length-2 : tie.Need-same-length-2
 same-length-2 c = search needs
 
--- src/run.rt:80:1
 same-length-3 : tie.Need-same-length-3
 same-length-3 c = search needs
 
--- src/run.rt:80:1
 same-length-4 : tie.Need-same-length-4
 same-length-4 c = search needs
 
--- src/run.rt:80:1
 returns : tie.Need-returns
 returns c = (c .before .before .before .before .before .before .before .before .before .before .before .before .before .before .before .before .before .before .before .before .before .before .before .pre .0, refl)
 

@@ -14,59 +14,45 @@ use Rattle.sketch.proofs.stages.stopped_by.Reads as stopped-by-reads
 use Rattle.sketch.proofs.stages.store_all.Reads as store-all-reads
 use Rattle.std.proofs.num.wrapping_add_u16.Reads as wrapping-add-u16-reads
 
--- src/stages.rt:246:9
 updated-requires : tie.Need-updated-requires
 updated-requires c κs = search needs
 
--- src/stages.rt:247:9
 fault-in-requires : tie.Need-fault-in-requires
 fault-in-requires c κs = search needs
 
--- src/stages.rt:248:8
 fault-of-requires : tie.Need-fault-of-requires
 fault-of-requires c κs = search needs
 
--- src/stages.rt:249:13
 read-three-requires : tie.Need-read-three-requires
 read-three-requires c κs = search needs
 
--- src/stages.rt:250:13
 wrapping-add-u16-requires : tie.Need-wrapping-add-u16-requires
 wrapping-add-u16-requires c κs = search needs
 
--- src/stages.rt:251:9
 store-all-requires : tie.Need-store-all-requires
 store-all-requires c κs = (c .before .before .before .before .before .before .before .before .before .before .before .updated .ensures, c .before .before .before .before .before .before .before .before .before .before .before .updated .kept .0 ∙ c .before .before .before .before .before .before .before .before .before .before .before .before .before .before .before .pre .1)
 
--- src/stages.rt:252:21
 incremented-requires : tie.Need-incremented-requires
 incremented-requires c κs = search needs
 
--- src/stages.rt:252:9
 fine-requires : tie.Need-fine-requires
 fine-requires c κs = search needs
 
--- src/stages.rt:252:9
 same-length : tie.Need-same-length
 same-length c = search needs
 
--- src/stages.rt:252:9
 same-length-2 : tie.Need-same-length-2
 same-length-2 c = c .before .before .before .before .before .before .store-all .kept .1 .0 ∙ c .before .before .before .before .before .before .before .before .before .before .before .before .before .before .before .before .before .before .updated .kept .0
 
--- src/stages.rt:252:9
 returns : tie.Need-returns
 returns c = search needs
 
--- src/stages.rt:254:5
 stopped-by-requires : tie.Need-stopped-by-requires
 stopped-by-requires c κs = search needs
 
--- src/stages.rt:235:1
 same-length-3 : tie.Need-same-length-3
 same-length-3 c = search needs
 
--- src/stages.rt:235:1
 returns-2 : tie.Need-returns-2
 returns-2 c = search needs
 

@@ -9,31 +9,24 @@ use Rattle.sketch.proofs.stages.read_three.Reads as reads
 use Rattle.sketch.proofs.stages.read_three.Lts as lts
 use Rattle.sketch.proofs.pages.word.Reads as word-reads
 
--- src/stages.rt:147:23
 enum-known-q : tie.Need-enum-known-q
 enum-known-q c = search needs
 
--- src/stages.rt:148:16
 word-requires : tie.Need-word-requires
 word-requires c κs = ((subst (AllWithin (length (c .before .before .before .before .before .args .mem .now))) (c .before .q .given .1) (c .before .before .before .before .before .pre .0)) .0, c .before .before .before .before .before .pre .1)
 
--- src/stages.rt:149:16
 word-requires-2 : tie.Need-word-requires-2
 word-requires-2 c κs = ((subst (AllWithin (length (c .before .before .before .before .before .before .args .mem .now))) (c .before .before .q .given .1) (c .before .before .before .before .before .before .pre .0)) .1 .0, c .before .before .before .before .before .before .pre .1)
 
--- src/stages.rt:150:16
 word-requires-3 : tie.Need-word-requires-3
 word-requires-3 c κs = ((subst (AllWithin (length (c .before .before .before .before .before .before .before .args .mem .now))) (c .before .before .before .q .given .1) (c .before .before .before .before .before .before .before .pre .0)) .1 .1, c .before .before .before .before .before .before .before .pre .1)
 
--- src/stages.rt:152:29
 enum-told : tie.Need-enum-told
 enum-told c = search needs
 
--- src/stages.rt:142:1
 returns : tie.Need-returns
 returns c = search needs
 
--- src/stages.rt:142:1
 returns-2 : tie.Need-returns-2
 returns-2 c = search needs
 

@@ -9,30 +9,24 @@ use Rattle.sketch.proofs.stages.store_all.Reads as reads
 use Rattle.sketch.proofs.stages.store_all.Lts as lts
 use Rattle.sketch.proofs.stages.store_three.Reads as store-three-reads
 
--- src/stages.rt:177:23
 enum-known-q : tie.Need-enum-known-q
 enum-known-q c = search needs
 
--- src/stages.rt:178:13
 store-three-requires : tie.Need-store-three-requires
 store-three-requires c κs = (subst (AllWithin (length (c .before .before .before .before .before .before .before .args .mem .now))) (c .before .before .before .q .given .1) (c .before .before .before .before .before .before .before .pre .0), c .before .before .before .before .before .before .before .pre .1)
 
 enum-told : tie.Need-enum-told
 enum-told c = search needs
 
--- src/stages.rt:172:1
 same-length : tie.Need-same-length
 same-length c = search needs
 
--- src/stages.rt:172:1
 same-length-2 : tie.Need-same-length-2
 same-length-2 c = search needs
 
--- src/stages.rt:172:1
 returns : tie.Need-returns
 returns c = search needs
 
--- src/stages.rt:172:1
 returns-2 : tie.Need-returns-2
 returns-2 c = search needs
 

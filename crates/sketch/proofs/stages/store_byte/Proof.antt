@@ -15,63 +15,48 @@ use Rattle.sketch.proofs.stages.read_three.Reads as read-three-reads
 use Rattle.sketch.proofs.stages.stopped_by.Reads as stopped-by-reads
 use Rattle.sketch.proofs.stages.store_all.Reads as store-all-reads
 
--- src/stages.rt:280:56
 byte-address-requires : tie.Need-byte-address-requires
 byte-address-requires c κs = search needs
 
--- src/stages.rt:280:9
 updated-requires : tie.Need-updated-requires
 updated-requires c κs = search needs
 
--- src/stages.rt:281:9
 fault-in-requires : tie.Need-fault-in-requires
 fault-in-requires c κs = search needs
 
--- src/stages.rt:282:8
 fault-of-requires : tie.Need-fault-of-requires
 fault-of-requires c κs = search needs
 
--- src/stages.rt:283:13
 read-three-requires : tie.Need-read-three-requires
 read-three-requires c κs = search needs
 
--- src/stages.rt:284:13
 stored-byte-requires : tie.Need-stored-byte-requires
 stored-byte-requires c κs = search needs
 
--- src/stages.rt:285:9
 store-all-requires : tie.Need-store-all-requires
 store-all-requires c κs = (c .before .before .before .before .before .before .before .before .before .before .before .updated .ensures, c .before .before .before .before .before .before .before .before .before .before .before .updated .kept .0 ∙ c .before .before .before .before .before .before .before .before .before .before .before .before .before .before .before .before .pre .1)
 
--- src/stages.rt:286:21
 none-requires : tie.Need-none-requires
 none-requires c κs = search needs
 
--- src/stages.rt:286:9
 fine-requires : tie.Need-fine-requires
 fine-requires c κs = search needs
 
--- src/stages.rt:286:9
 same-length : tie.Need-same-length
 same-length c = search needs
 
--- src/stages.rt:286:9
 same-length-2 : tie.Need-same-length-2
 same-length-2 c = c .before .before .before .before .before .before .store-all .kept .1 .0 ∙ c .before .before .before .before .before .before .before .before .before .before .before .before .before .before .before .before .before .before .updated .kept .0
 
--- src/stages.rt:286:9
 returns : tie.Need-returns
 returns c = search needs
 
--- src/stages.rt:288:5
 stopped-by-requires : tie.Need-stopped-by-requires
 stopped-by-requires c κs = search needs
 
--- src/stages.rt:276:1
 same-length-3 : tie.Need-same-length-3
 same-length-3 c = search needs
 
--- src/stages.rt:276:1
 returns-2 : tie.Need-returns-2
 returns-2 c = search needs
 

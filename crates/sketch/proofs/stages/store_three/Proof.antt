@@ -9,27 +9,21 @@ use Rattle.sketch.proofs.stages.store_three.Reads as reads
 use Rattle.sketch.proofs.stages.store_three.Lts as lts
 use Rattle.sketch.proofs.pages.put.Reads as put-reads
 
--- src/stages.rt:87:5
 put-requires : tie.Need-put-requires
 put-requires c κs = search needs
 
--- src/stages.rt:88:5
 put-requires-2 : tie.Need-put-requires-2
 put-requires-2 c κs = (subst (λ (n : ℕ). Within n (c .before .before .before .before .before .before .before .before .before .before .before .args .y)) (sym (c .before .before .before .before .before .before .put .kept .0)) (c .before .before .before .before .before .before .before .before .before .before .before .pre .0 .1 .0), c .before .before .before .before .before .before .put .kept .1 .0 ∙ c .before .before .before .before .before .before .before .before .before .before .before .pre .1)
 
--- src/stages.rt:89:5
 put-requires-3 : tie.Need-put-requires-3
 put-requires-3 c κs = (subst (λ (n : ℕ). Within n (c .before .before .before .before .before .before .before .before .before .before .before .before .before .before .before .before .before .before .args .z)) (sym (c .before .before .before .before .before .before .put2 .kept .0 ∙ c .before .before .before .before .before .before .before .before .before .before .before .before .before .put .kept .0)) (c .before .before .before .before .before .before .before .before .before .before .before .before .before .before .before .before .before .before .pre .0 .1 .1), c .before .before .before .before .before .before .put2 .kept .1 .0 ∙ c .before .before .before .before .before .before .before .before .before .before .before .before .before .put .kept .1 .0 ∙ c .before .before .before .before .before .before .before .before .before .before .before .before .before .before .before .before .before .before .pre .1)
 
--- src/stages.rt:76:1
 same-length : tie.Need-same-length
 same-length c = search needs
 
--- src/stages.rt:76:1
 same-length-2 : tie.Need-same-length-2
 same-length-2 c = search needs
 
--- src/stages.rt:76:1
 returns : tie.Need-returns
 returns c = search needs
 

@@ -13,55 +13,42 @@ use Rattle.sketch.proofs.stages.fine.Reads as fine-reads
 use Rattle.sketch.proofs.stages.stopped_by.Reads as stopped-by-reads
 use Rattle.sketch.proofs.stages.store_all.Reads as store-all-reads
 
--- src/stages.rt:225:9
 several-requires : tie.Need-several-requires
 several-requires c κs = search needs
 
--- src/stages.rt:226:9
 fault-in-requires : tie.Need-fault-in-requires
 fault-in-requires c κs = search needs
 
--- src/stages.rt:227:8
 fault-of-requires : tie.Need-fault-of-requires
 fault-of-requires c κs = search needs
 
--- src/stages.rt:228:35
 stored-more-requires : tie.Need-stored-more-requires
 stored-more-requires c κs = search needs
 
--- src/stages.rt:228:9
 store-all-requires : tie.Need-store-all-requires
 store-all-requires c κs = search needs
 
--- src/stages.rt:229:21
 none-requires : tie.Need-none-requires
 none-requires c κs = search needs
 
--- src/stages.rt:229:9
 fine-requires : tie.Need-fine-requires
 fine-requires c κs = search needs
 
--- src/stages.rt:229:9
 same-length : tie.Need-same-length
 same-length c = search needs
 
--- src/stages.rt:229:9
 same-length-2 : tie.Need-same-length-2
 same-length-2 c = c .before .before .before .before .before .before .store-all .kept .1 .0 ∙ c .before .before .before .before .before .before .before .before .before .before .before .before .before .before .before .several .kept .0
 
--- src/stages.rt:229:9
 returns : tie.Need-returns
 returns c = search needs
 
--- src/stages.rt:231:5
 stopped-by-requires : tie.Need-stopped-by-requires
 stopped-by-requires c κs = search needs
 
--- src/stages.rt:213:1
 same-length-3 : tie.Need-same-length-3
 same-length-3 c = search needs
 
--- src/stages.rt:213:1
 returns-2 : tie.Need-returns-2
 returns-2 c = search needs
 

@@ -1,0 +1,111 @@
+// What an instruction does to the running level's registers.
+ghost use mathlib.Core.Path.{_≡_};
+ghost use Prim.Native.Nat.{_<_};
+ghost use Rattle.isa.specs.Machine.{reg, withReg};
+ghost use Rattle.isa.specs.Flags.{adder};
+ghost use Rattle.isa.specs.Instructions.{loads, skipIf, takes};
+ghost use Rattle.isa.specs.declared.machine.Register.the-variants.{Sts};
+ghost use Rattle.execute.specs.Effects.{fileOf, completed};
+use isa::machine::Register;
+
+// P, STS and T take these values, then the second register, then the first; and whether the error interrupt, 5, is given.
+pub struct Effect {
+    pub p: u16,
+    pub sts: u16,
+    pub t: u16,
+    pub second: Register,
+    pub other: u16,
+    pub first: Register,
+    pub value: u16,
+    pub error: bool,
+}
+
+pub fn reg(f: &[u16; 8], r: Register) -> u16
+    ensures { λ v. ⌜ v ≡ reg (fileOf (now (f .entry))) r ⌝ }
+{
+    let i = r.index();
+    f[i]
+}
+
+// STS takes a value, then the second register, then the first.
+pub fn flagged(
+    f: &[u16; 8],
+    sts: u16,
+    first: Register,
+    value: u16,
+    second: Register,
+    other: u16,
+) -> Effect
+    ensures { λ e. ⌜ completed e (fileOf (now (f .entry))) ≡ loads (withReg (withReg (withReg (fileOf (now (f .entry))) Sts sts) second other) first value) ⌝ }
+{
+    Effect {
+        p: reg(f, Register::P),
+        sts: sts,
+        t: reg(f, Register::T),
+        second: second,
+        other: other,
+        first: first,
+        value: value,
+        error: false,
+    }
+}
+
+// The second register takes a value, then the first.
+pub fn two(f: &[u16; 8], first: Register, value: u16, second: Register, other: u16) -> Effect
+    ensures { λ e. ⌜ completed e (fileOf (now (f .entry))) ≡ loads (withReg (withReg (fileOf (now (f .entry))) second other) first value) ⌝ }
+{
+    flagged(f, reg(f, Register::Sts), first, value, second, other)
+}
+
+// STS takes a value, then a register.
+pub fn with_flags(f: &[u16; 8], sts: u16, r: Register, v: u16) -> Effect
+    ensures { λ e. ⌜ completed e (fileOf (now (f .entry))) ≡ loads (withReg (withReg (fileOf (now (f .entry))) Sts sts) r v) ⌝ }
+{
+    flagged(f, sts, r, v, Register::T, reg(f, Register::T))
+}
+
+pub fn one(f: &[u16; 8], r: Register, v: u16) -> Effect
+    ensures { λ e. ⌜ completed e (fileOf (now (f .entry))) ≡ loads (withReg (fileOf (now (f .entry))) r v) ⌝ }
+{
+    two(f, r, v, Register::T, reg(f, Register::T))
+}
+
+pub fn none(f: &[u16; 8]) -> Effect
+    ensures { λ e. ⌜ completed e (fileOf (now (f .entry))) ≡ loads (fileOf (now (f .entry))) ⌝ }
+{
+    one(f, Register::P, reg(f, Register::P))
+}
+
+pub fn only_flags(f: &[u16; 8], sts: u16) -> Effect
+    ensures { λ e. ⌜ completed e (fileOf (now (f .entry))) ≡ loads (withReg (fileOf (now (f .entry))) Sts sts) ⌝ }
+{
+    with_flags(f, sts, Register::P, reg(f, Register::P))
+}
+
+// The next instruction is skipped, or not.
+pub fn skip_if(c: bool, f: &[u16; 8]) -> Effect
+    ensures { λ e. ⌜ completed e (fileOf (now (f .entry))) ≡ loads (skipIf c (fileOf (now (f .entry)))) ⌝ }
+{
+    if c {
+        return one(
+            f,
+            Register::P,
+            std::num::wrapping_add_u16(reg(f, Register::P), 1),
+        );
+    }
+    none(f)
+}
+
+// A register takes the sum of a, b and the carry in c, and STS its flags.
+pub fn takes(f: &[u16; 8], r: Register, a: u16, b: u16, c: u16) -> Effect
+    requires { ⌜ c < 2 ⌝ }
+    ensures { λ e. ⌜ completed e (fileOf (now (f .entry))) ≡ loads (takes (fileOf (now (f .entry))) r (adder a b c)) ⌝ }
+{
+    let s = word::adder::add(a, b, c);
+    with_flags(
+        f,
+        word::adder::with_sum(s, reg(f, Register::Sts)),
+        r,
+        s.value,
+    )
+}

@@ -1,0 +1,3 @@
+-- What the functions answer to, beside the definitions of the machine.
+pub mod Addresses
+pub mod Requests
