@@ -190,5 +190,5 @@ pub fn irr(w: u16) -> Instruction
 pub fn iox(w: u16) -> Instruction
     ensures { λ r. ⌜ r ≡ Privileged (Iox (w % 2048)) ⌝ }
 {
-    Instruction::Privileged(System::Iox(w % 2048))
+    Instruction::Privileged(System::Iox((w % 2048) as u32))
 }

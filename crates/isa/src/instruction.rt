@@ -179,7 +179,8 @@ pub enum ControlOp {
     Mst(Maskable),
 }
 
-// The privileged instructions. A number is a level, or a device's address or line.
+// The privileged instructions. A number is a level, or a device's address or line. IOX holds its address in 32 bits so that a
+// decoded instruction is not eight bytes long, which is slower (docs/BENCHMARK.md).
 pub enum System {
     Control(ControlOp),
     TraPgc,
@@ -190,7 +191,7 @@ pub enum System {
     Lrb(u16),
     Exam,
     Depo,
-    Iox(u16),
+    Iox(u32),
     Ioxt,
     Ident(u16),
 }
