@@ -126,7 +126,7 @@ fn main() {
             let ns = 1e9 / steps as f64;
             let (a, b) = (median(a), median(b));
             println!(
-                "{steps} steps; median ns a step: proved {:.2}, Rust {:.2}",
+                "{steps} steps; median ns a step: sketch {:.2}, Rust {:.2}",
                 a * ns,
                 b * ns
             );
