@@ -1,4 +1,4 @@
-//! Runs the proved engine and the second engine on one image, and compares them.
+//! Runs the sketch and the second engine on one image, and compares them.
 mod image;
 
 use second::State;
