@@ -4,12 +4,14 @@ use mathlib.Core.Bool.{Bool, true, false, cond, not, _&&_, _||_}
 use mathlib.Core.List.{List, [], _∷_}
 use lib.ListN.{getD, set, drop, length}
 use lib.Dec.{ltb, leb, eqb}
-use Rattle.isa.specs.Machine.{bit, reg, flag, flagPTM, ringOf, normalTableOf, alternateTableOf, withPcr}
+use Rattle.isa.specs.Machine.{bit, reg, flagPTM, ringOf, normalTableOf, alternateTableOf, withPcr}
 use Rattle.isa.specs.declared.machine.Core.{Core}
+use Rattle.isa.specs.declared.machine.Register.the-variants.{Sts}
 use Rattle.isa.specs.declared.access.Access.{Access}
 use Rattle.isa.specs.declared.access.Kind.{Kind}
 use Rattle.isa.specs.declared.access.Kind.the-variants.{Fetch, Read, Write, Indirect}
 use Rattle.isa.specs.declared.access.Rights.{Rights}
+use Rattle.isa.specs.declared.access.Triple.{Triple}
 use Rattle.isa.specs.declared.access.Translation.{Translation}
 use Rattle.isa.specs.declared.access.Translation.the-variants.{NoAccess, Load, Store, LoadTable, StoreTable, Protection, PageFault, OutOfRange}
 
@@ -187,6 +189,10 @@ pub record Lent : Type 0 where
 abbrev pub lent : List ℕ → List ℕ → Lent
 lent m t = record { memory = m; tables = t }
 
+-- up to three words as a list
+abbrev pub wordsOf : Triple → List ℕ
+wordsOf w = w .a ∷ w .b ∷ w .c ∷ []
+
 abbrev pub storeAll : List ℕ → List ℕ → List Translation → List ℕ → Lent
 storeAll m t [] ws = lent m t
 storeAll m t (NoAccess ∷ xs) ws = storeAll m t xs ws
@@ -199,13 +205,16 @@ storeAll m t (PageFault g ∷ xs) ws = storeAll m t xs ws
 storeAll m t (OutOfRange ∷ xs) ws = storeAll m t xs ws
 
 -- What the running level's accesses are judged by. "With PTM 0 all use the normal table."
-abbrev pub rightsOf : Core → Rights
-rightsOf c = record {
-  paging = eqb (c .control .paging) 1;
-  ring = ringOf (c .pcr);
-  normal = normalTableOf (c .pcr);
-  alternate = cond (eqb (flag flagPTM (c .file)) 1) (alternateTableOf (c .pcr)) (normalTableOf (c .pcr));
+abbrev pub rightsBy : ℕ → ℕ → ℕ → Rights
+rightsBy sts p paging = record {
+  paging = eqb paging 1;
+  ring = ringOf p;
+  normal = normalTableOf p;
+  alternate = cond (eqb (bit flagPTM sts) 1) (alternateTableOf p) (normalTableOf p);
 }
+
+abbrev pub rightsOf : Core → Rights
+rightsOf c = rightsBy (reg (c .file) Sts) (c .pcr) (c .control .paging)
 
 -- "A passed fetch from a lower ring lowers the user's ring in PCR"; in the window no lowering
 abbrev pub loweredPcr : ℕ → ℕ → ℕ

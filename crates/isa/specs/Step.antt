@@ -77,9 +77,9 @@ faulted x c = gives (faultOf x) (withControl c (withPgs (c .control) x))
 abbrev pub failed : Core → Translation → List ℕ → List ℕ → Part
 failed c x m t = part (faulted x c) (faultOf x) Nothing m t
 
--- an interrupt of an instruction that is not by an access
+-- an interrupt of an instruction that is not by an access; c is the core with P one further
 abbrev pub trapped : ℕ → Core → List ℕ → List ℕ → Part
-trapped n c m t = part (gives n (nextCore c)) n Nothing m t
+trapped n c m t = part (gives n c) n Nothing m t
 
 -- ---- an unprivileged instruction
 
@@ -114,7 +114,7 @@ indirectTested c m u r =
 unfoldable pub userStage : Core → List ℕ → List ℕ → User → Part
 userStage c m t u = indirectTested c m u (testAll t (length m) (rightsOf c) (indirectRequest u (c .file)))
 
--- ---- a privileged instruction
+-- ---- a privileged instruction, on the core c with P one further
 
 -- EXAM loads T from, and DEPO stores T in, the physical address A * 65,536 + D: "EXAM and DEPO reach memory only. For them ..
 -- an address past the memory gives 9."
@@ -124,22 +124,22 @@ physicalAddress f = reg f A * 65536 + reg f D
 unfoldable pub examined : Core → List ℕ → List ℕ → Part
 examined c m t =
     let p = physicalAddress (c .file) in
-    cond (ltb p (length m)) (part (withFile c (withReg (next (c .file)) T (getD m p 0))) 0 Nothing m t) (failed (nextCore c) OutOfRange m t)
+    cond (ltb p (length m)) (part (withFile c (withReg (c .file) T (getD m p 0))) 0 Nothing m t) (failed c OutOfRange m t)
 
 unfoldable pub deposited : Core → List ℕ → List ℕ → Part
 deposited c m t =
     let p = physicalAddress (c .file) in
-    cond (ltb p (length m)) (part (nextCore c) 0 Nothing (set m p (reg (c .file) T)) t) (failed (nextCore c) OutOfRange m t)
+    cond (ltb p (length m)) (part c 0 Nothing (set m p (reg (c .file) T)) t) (failed c OutOfRange m t)
 
 -- what is left to be done outside the level l, or done here. "No device is fitted: IOX, IOXT and IDENT give interrupt 7."
 abbrev pub systemStage : ℕ → Core → List ℕ → List ℕ → System → Part
-systemStage l c m t (ControlOf o) = part (controlled l (nextCore c) o) 0 Nothing m t
-systemStage l c m t TraPgc = part (nextCore c) 0 ReadPcr m t
-systemStage l c m t TrrPcr = part (nextCore c) 0 WritePcr m t
-systemStage l c m t (Irr n r) = part (nextCore c) 0 (ReadRegister n r) m t
-systemStage l c m t (Irw n r) = part (nextCore c) 0 (WriteRegister n r) m t
-systemStage l c m t (Srb n) = part (nextCore c) 0 (StoreBlock n) m t
-systemStage l c m t (Lrb n) = part (nextCore c) 0 (LoadBlock n) m t
+systemStage l c m t (ControlOf o) = part (controlled l c o) 0 Nothing m t
+systemStage l c m t TraPgc = part c 0 ReadPcr m t
+systemStage l c m t TrrPcr = part c 0 WritePcr m t
+systemStage l c m t (Irr n r) = part c 0 (ReadRegister n r) m t
+systemStage l c m t (Irw n r) = part c 0 (WriteRegister n r) m t
+systemStage l c m t (Srb n) = part c 0 (StoreBlock n) m t
+systemStage l c m t (Lrb n) = part c 0 (LoadBlock n) m t
 systemStage l c m t Exam = examined c m t
 systemStage l c m t Depo = deposited c m t
 systemStage l c m t (Iox n) = trapped 7 c m t
@@ -156,10 +156,10 @@ privileged c = not (eqb (c .control .paging) 1) || leb 2 (ringOf (c .pcr))
 -- into T of level 14."
 unfoldable pub instructionStage : ℕ → Core → List ℕ → List ℕ → Instruction → Part
 instructionStage l c m t (Unprivileged u) = userStage c m t u
-instructionStage l c m t (Privileged q) = cond (privileged c) (systemStage l c m t q) (trapped 6 c m t)
-instructionStage l c m t (Execute s) = trapped 4 c m t
+instructionStage l c m t (Privileged q) = cond (privileged c) (systemStage l (nextCore c) m t q) (trapped 6 (nextCore c) m t)
+instructionStage l c m t (Execute s) = trapped 4 (nextCore c) m t
 instructionStage l c m t (Monitor n) = part (gives 1 (nextCore c)) 1 (Call (bitsOf 16 n)) m t
-instructionStage l c m t Illegal = trapped 4 c m t
+instructionStage l c m t Illegal = trapped 4 (nextCore c) m t
 
 -- EXR executes the word in its register. "An EXR whose register holds an EXR is illegal", as an instruction Execute is above.
 abbrev pub executed : File → Instruction → Instruction

@@ -22,6 +22,13 @@ pub struct Rights {
     pub alternate: u16,
 }
 
+// Up to three words, in order.
+pub struct Triple {
+    pub a: u16,
+    pub b: u16,
+    pub c: u16,
+}
+
 // What comes of an access: none was made; a place in memory, or in the page tables, to load from or to store to;
 // or the fault: a missing permit or a ring too low, or no permit at all, each with the paging status; or a page beyond the memory.
 pub enum Translation {

@@ -152,7 +152,7 @@ module _ (t₀ : List ℕ) (a b ρ : ℕ) where
     failed-even t c x hm hc = quiet t (faulted x c) (faultOf x) Nothing hm (faulted-held x c hc) tt
 
     trapped-even : (t : List ℕ) (k : ℕ) (c : Core) → Marked t t₀ → Held t₀ a b ρ c → Even m n (trapped k c m t) (trapped k c n t)
-    trapped-even t k c hm hc = quiet t (gives k (nextCore c)) k Nothing hm (gives-held k (nextCore c) (next-held c hc)) tt
+    trapped-even t k c hm hc = quiet t (gives k c) k Nothing hm (gives-held k c hc) tt
 
     module _ (c : Core) (hc : Held t₀ a b ρ c) where
       finished-even : (t : List ℕ) (xs : List Translation) (d : Completed) → Marked t t₀ → AllAllowed t₀ a b ρ xs
@@ -217,11 +217,11 @@ module _ (t₀ : List ℕ) (a b ρ : ℕ) where
         instruction-even : (l : ℕ) (t : List ℕ) (i : Instruction) → Marked t t₀ → Even m n (instructionStage l c m t i) (instructionStage l c n t i)
         unfolding instructionStage
         instruction-even l t (Unprivileged u) hm = user-even t u hm
-        instruction-even l t (Privileged q) hm = rw not-privileged (trapped-even t 6 c hm hc)
-        instruction-even l t (Execute s) hm = trapped-even t 4 c hm hc
+        instruction-even l t (Privileged q) hm = rw not-privileged (trapped-even t 6 (nextCore c) hm (next-held c hc))
+        instruction-even l t (Execute s) hm = trapped-even t 4 (nextCore c) hm (next-held c hc)
         instruction-even l t (Monitor k) hm =
             quiet t (gives 1 (nextCore c)) 1 (Call (bitsOf 16 k)) hm (gives-held 1 (nextCore c) (next-held c hc)) tt
-        instruction-even l t Illegal hm = trapped-even t 4 c hm hc
+        instruction-even l t Illegal hm = trapped-even t 4 (nextCore c) hm (next-held c hc)
 
     -- fetch, and the whole step of the level
     module _ (ρ≤1 : ρ ≤ 1) (l : ℕ) (c : Core) (hc : Held t₀ a b ρ c) where

@@ -16,7 +16,6 @@ use Rattle.isa.specs.declared.instruction.MemoryOp.{MemoryOp}
 use Rattle.isa.specs.declared.instruction.MemoryOp.the-variants.{Stz, Sta, Stt, Stx, Std, Ldd, Stf, Ldf, Min, Lda, Ldt, Ldx, Add, Sub, And, Ora, Mpy, Jmp, Jpl}
 use Rattle.operands.specs.declared.request.Request.{Request}
 use Rattle.operands.specs.declared.request.Request.the-variants.{Idle, Read, Write, ReadMore, WriteMore, Update}
-use Rattle.operands.specs.declared.words.Words.{Words}
 
 abbrev pub requestOf : MemoryOp → Request
 requestOf Stz = Write
@@ -91,10 +90,6 @@ wordStored o g = cond (isWrite (requestOf o)) (getD (memoryCompletion o g 0 [] .
 -- JMP and JPL to the address a; the others leave the file g
 abbrev pub jumpTaken : MemoryOp → File → ℕ → Completed
 jumpTaken o g a = cond (isIdle (requestOf o)) (memoryCompletion o g a []) (loads g)
-
--- up to three words as a list
-abbrev pub listOf : Words → List ℕ
-listOf w = w .a ∷ w .b ∷ w .c ∷ []
 
 -- LDD by two words, LDF by three
 abbrev pub wordsLoaded : ℕ → File → List ℕ → Completed

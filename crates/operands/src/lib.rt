@@ -6,4 +6,3 @@ pub mod jump;
 pub mod load;
 pub mod request;
 pub mod store;
-pub mod words;

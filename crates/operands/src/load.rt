@@ -5,11 +5,12 @@ ghost use Rattle.isa.specs.Instructions.{loads, multiplied, incremented, memory
 ghost use Rattle.isa.specs.Address.{sum};
 ghost use Rattle.isa.specs.declared.instruction.MemoryOp.the-variants.{Ldf};
 ghost use Rattle.execute.specs.Effects.{fileOf, completed};
-ghost use Rattle.operands.specs.Requests.{wordAdded, wordLoaded, wordsLoaded, listOf};
-use crate::words::Words;
+ghost use Rattle.operands.specs.Requests.{wordAdded, wordLoaded, wordsLoaded};
+ghost use Rattle.isa.specs.Pages.{wordsOf};
 use execute::effect;
 use execute::effect::Effect;
 use execute::effect::reg;
+use isa::access::Triple;
 use isa::instruction::MemoryOp;
 use isa::machine::Register;
 
@@ -62,8 +63,8 @@ pub fn loaded(o: MemoryOp, f: &[u16; 8], w: u16) -> Effect
 }
 
 // LDF: T, A and D take the words.
-fn triple(f: &[u16; 8], w: Words) -> Effect
-    ensures { λ e. ⌜ completed e (fileOf (now (f .entry))) ≡ memoryCompletion Ldf (fileOf (now (f .entry))) 0 (listOf w) ⌝ }
+fn triple(f: &[u16; 8], w: Triple) -> Effect
+    ensures { λ e. ⌜ completed e (fileOf (now (f .entry))) ≡ memoryCompletion Ldf (fileOf (now (f .entry))) 0 (wordsOf w) ⌝ }
 {
     Effect {
         p: reg(f, Register::P),
@@ -78,8 +79,8 @@ fn triple(f: &[u16; 8], w: Words) -> Effect
 }
 
 // LDD by two words, LDF by three.
-pub fn loaded_more(n: u16, f: &[u16; 8], w: Words) -> Effect
-    ensures { λ e. ⌜ completed e (fileOf (now (f .entry))) ≡ wordsLoaded n (fileOf (now (f .entry))) (listOf w) ⌝ }
+pub fn loaded_more(n: u16, f: &[u16; 8], w: Triple) -> Effect
+    ensures { λ e. ⌜ completed e (fileOf (now (f .entry))) ≡ wordsLoaded n (fileOf (now (f .entry))) (wordsOf w) ⌝ }
 {
     if n == 2 {
         return effect::two(f, Register::D, w.b, Register::A, w.a);

@@ -1,9 +1,10 @@
 // Operations that write.
 ghost use mathlib.Core.Path.{_≡_};
 ghost use Rattle.execute.specs.Effects.{fileOf};
-ghost use Rattle.operands.specs.Requests.{wordStored, wordsStored, listOf};
-use crate::words::Words;
+ghost use Rattle.operands.specs.Requests.{wordStored, wordsStored};
+ghost use Rattle.isa.specs.Pages.{wordsOf};
 use execute::effect::reg;
+use isa::access::Triple;
 use isa::instruction::MemoryOp;
 use isa::machine::Register;
 
@@ -35,17 +36,17 @@ pub fn stored(o: MemoryOp, f: &[u16; 8]) -> u16
 }
 
 // STD's two words, or STF's three.
-pub fn stored_more(n: u16, f: &[u16; 8]) -> Words
-    ensures { λ w. ⌜ listOf w ≡ wordsStored n (fileOf (now (f .entry))) ⌝ }
+pub fn stored_more(n: u16, f: &[u16; 8]) -> Triple
+    ensures { λ w. ⌜ wordsOf w ≡ wordsStored n (fileOf (now (f .entry))) ⌝ }
 {
     if n == 2 {
-        return Words {
+        return Triple {
             a: reg(f, Register::A),
             b: reg(f, Register::D),
             c: 0,
         };
     }
-    Words {
+    Triple {
         a: reg(f, Register::T),
         b: reg(f, Register::A),
         c: reg(f, Register::D),

@@ -1,7 +1,8 @@
 // What comes of an access: its interrupt, PGS, and the word at its place.
 ghost use mathlib.Core.Path.{_≡_};
+ghost use mathlib.Core.List.{[], _∷_};
 ghost use lib.ListN.{length};
-ghost use Rattle.isa.specs.Pages.{faultOf, pgsAfter, wordAt};
+ghost use Rattle.isa.specs.Pages.{faultOf, pgsAfter, wordAt, storeAll, lent};
 ghost use Rattle.paging.specs.Within.{Within};
 use isa::access::Translation;
 
@@ -52,5 +53,27 @@ pub fn word_at(mem: &[u16], tables: &[u16], x: Translation) -> u16
         Translation::Protection(_) => 0,
         Translation::PageFault(_) => 0,
         Translation::OutOfRange => 0,
+    }
+}
+
+// The word is stored at a place to store to; nothing at any other.
+pub fn store_at(mem: &mut [u16], tables: &mut [u16], x: Translation, w: u16)
+    requires { ⌜ Within (length (now mem)) x ⌝ }
+    requires { ⌜ length (now tables) ≡ 256 ⌝ }
+    ensures { λ _. ⌜ lent (now (mem .exit)) (now (tables .exit)) ≡ storeAll (now (mem .entry)) (now (tables .entry)) (x ∷ []) (w ∷ []) ⌝ }
+{
+    match x {
+        Translation::NoAccess => {}
+        Translation::Load(_) => {}
+        Translation::Store(p) => {
+            mem[p] = w;
+        }
+        Translation::LoadTable(_) => {}
+        Translation::StoreTable(i) => {
+            tables[i] = w;
+        }
+        Translation::Protection(_) => {}
+        Translation::PageFault(_) => {}
+        Translation::OutOfRange => {}
     }
 }

@@ -4,10 +4,8 @@ ghost use mathlib.Core.Bool.{cond};
 ghost use Prim.Native.Nat.{_<_};
 ghost use lib.Dec.{eqb};
 ghost use Rattle.isa.specs.Machine.{bit, flagPTM, alternateTableOf, normalTableOf};
-ghost use Rattle.isa.specs.Pages.{rightsOf};
+ghost use Rattle.isa.specs.Pages.{rightsBy};
 use isa::access::Rights;
-use isa::machine::Core;
-use isa::machine::Register;
 
 // The table of the alternate rule, by STS and PCR.
 fn alternate_of(sts: u16, p: u16) -> u16
@@ -20,17 +18,15 @@ fn alternate_of(sts: u16, p: u16) -> u16
     p / 512 % 4
 }
 
-pub fn rights(c: Core) -> Rights
-    ensures { λ r. ⌜ r ≡ rightsOf c ⌝ }
+// By STS, PCR and the control word for paging.
+pub fn rights(sts: u16, p: u16, paging: u16) -> Rights
+    ensures { λ r. ⌜ r ≡ rightsBy sts p paging ⌝ }
     ensures { λ r. ⌜ (r .normal < 4) × (r .alternate < 4) ⌝ }
 {
-    let p = c.pcr;
-    let f = c.file;
-    let k = c.control;
     Rights {
-        paging: k.paging == 1,
+        paging: paging == 1,
         ring: p % 4,
         normal: p / 512 % 4,
-        alternate: alternate_of(f.get(Register::Sts), p),
+        alternate: alternate_of(sts, p),
     }
 }

@@ -84,18 +84,17 @@ fn in_window(r: Rights, a: u16) -> bool
     false
 }
 
-// With paging off the address is physical.
-fn unmapped(words: usize, k: Kind, a: u16) -> Translation
-    ensures { λ x. ⌜ x ≡ withinMemory words k a ⌝ }
+// An access by its physical address.
+pub fn physical(words: usize, k: Kind, p: usize) -> Translation
+    ensures { λ x. ⌜ x ≡ withinMemory words k p ⌝ }
 {
-    let p = a as usize;
     if p < words {
         return in_memory(k, p);
     }
     Translation::OutOfRange
 }
 
-// One access.
+// One access. With paging off the address is physical.
 pub fn translate(
     tables: &mut [u16],
     words: usize,
@@ -115,7 +114,7 @@ pub fn translate(
     if r.paging {
         return looked_up(tables, words, r.ring, k, slot_of(r, alternate, a), a);
     }
-    unmapped(words, k, a)
+    physical(words, k, a as usize)
 }
 
 // The ring of the entry of an address by the normal table.

@@ -13,7 +13,7 @@ use Rattle.places.specs.declared.request.Request.{Request}
 use Rattle.places.specs.declared.request.Request.the-variants.{Idle, Read, Write, Update}
 use Rattle.places.specs.declared.request.Places.{Places}
 use Rattle.places.specs.declared.request.Places.the-variants.{Idle as NoPlace, One, Two, Three, Fault}
-use Rattle.places.specs.declared.words.Words.{Words}
+use Rattle.isa.specs.declared.access.Triple.{Triple}
 
 -- so many words from an address on: one, two, or else three
 abbrev pub wordsFrom : Kind → Bool → ℕ → ℕ → List Access
@@ -40,9 +40,6 @@ faultIn (Two x y) = NoAccess
 faultIn (Three x y z) = NoAccess
 faultIn (Fault x) = x
 
--- words in order, and those after the first
-abbrev pub listOf : Words → List ℕ
-listOf w = w .a ∷ w .b ∷ w .c ∷ []
-
-abbrev pub restOf : Words → Words
+-- the words after the first
+abbrev pub restOf : Triple → Triple
 restOf w = record { a = w .b; b = w .c; c = 0 }

@@ -2,23 +2,17 @@
 ghost use mathlib.Core.Path.{_≡_};
 ghost use mathlib.Core.List.{List, _∷_};
 ghost use lib.ListN.{getD, length};
-ghost use Rattle.isa.specs.Pages.{wordsAt, storeAll, lent};
+ghost use Rattle.isa.specs.Pages.{wordsAt, storeAll, lent, wordsOf};
 ghost use Rattle.isa.specs.declared.access.Translation.{Translation as TranslationOf};
 ghost use Rattle.paging.specs.Within.{Within, AllWithin};
-ghost use Rattle.places.specs.Accesses.{placesOf, listOf, restOf};
+ghost use Rattle.places.specs.Accesses.{placesOf, restOf};
 use crate::request::Places;
 use isa::access::Translation;
+use isa::access::Triple;
 use paging::place::word_at;
 
-// Up to three words, in order.
-pub struct Words {
-    pub a: u16,
-    pub b: u16,
-    pub c: u16,
-}
-
 // The words at the places, 0 beyond them.
-pub fn read_all(mem: &[u16], tables: &[u16], p: Places) -> Words
+pub fn read_all(mem: &[u16], tables: &[u16], p: Places) -> Triple
     requires { ⌜ AllWithin (length (now mem)) (placesOf p) ⌝ }
     requires { ⌜ length (now tables) ≡ 256 ⌝ }
     ensures { λ w. ⌜ w .a ≡ getD (wordsAt (now (mem .entry)) (now (tables .entry)) (placesOf p)) 0 0 ⌝ }
@@ -26,31 +20,31 @@ pub fn read_all(mem: &[u16], tables: &[u16], p: Places) -> Words
     ensures { λ w. ⌜ w .c ≡ getD (wordsAt (now (mem .entry)) (now (tables .entry)) (placesOf p)) 2 0 ⌝ }
 {
     match p {
-        Places::Idle => Words { a: 0, b: 0, c: 0 },
-        Places::One(x) => Words {
+        Places::Idle => Triple { a: 0, b: 0, c: 0 },
+        Places::One(x) => Triple {
             a: word_at(mem, tables, x),
             b: 0,
             c: 0,
         },
-        Places::Two(x, y) => Words {
+        Places::Two(x, y) => Triple {
             a: word_at(mem, tables, x),
             b: word_at(mem, tables, y),
             c: 0,
         },
-        Places::Three(x, y, z) => Words {
+        Places::Three(x, y, z) => Triple {
             a: word_at(mem, tables, x),
             b: word_at(mem, tables, y),
             c: word_at(mem, tables, z),
         },
-        Places::Fault(_) => Words { a: 0, b: 0, c: 0 },
+        Places::Fault(_) => Triple { a: 0, b: 0, c: 0 },
     }
 }
 
 // The words after the first.
-fn rest(w: Words) -> Words
+fn rest(w: Triple) -> Triple
     ensures { λ v. ⌜ v ≡ restOf w ⌝ }
 {
-    Words {
+    Triple {
         a: w.b,
         b: w.c,
         c: 0,
@@ -58,10 +52,10 @@ fn rest(w: Words) -> Words
 }
 
 // The first word is stored if the place is one to store to; the words that are left.
-fn stored(mem: &mut [u16], tables: &mut [u16], x: Translation, w: Words) -> Words
+fn stored(mem: &mut [u16], tables: &mut [u16], x: Translation, w: Triple) -> Triple
     requires { ⌜ Within (length (now mem)) x ⌝ }
     requires { ⌜ length (now tables) ≡ 256 ⌝ }
-    ensures { λ v. ⌜ ((xs : List TranslationOf) → storeAll (now (mem .exit)) (now (tables .exit)) xs (listOf v) ≡ storeAll (now (mem .entry)) (now (tables .entry)) (x ∷ xs) (listOf w)) ⌝ }
+    ensures { λ v. ⌜ ((xs : List TranslationOf) → storeAll (now (mem .exit)) (now (tables .exit)) xs (wordsOf v) ≡ storeAll (now (mem .entry)) (now (tables .entry)) (x ∷ xs) (wordsOf w)) ⌝ }
 {
     match x {
         Translation::NoAccess => w,
@@ -82,20 +76,26 @@ fn stored(mem: &mut [u16], tables: &mut [u16], x: Translation, w: Words) -> Word
 }
 
 // The same at two places.
-fn store_two(mem: &mut [u16], tables: &mut [u16], x: Translation, y: Translation, w: Words) -> Words
+fn store_two(
+    mem: &mut [u16],
+    tables: &mut [u16],
+    x: Translation,
+    y: Translation,
+    w: Triple,
+) -> Triple
     requires { ⌜ Within (length (now mem)) x × Within (length (now mem)) y ⌝ }
     requires { ⌜ length (now tables) ≡ 256 ⌝ }
-    ensures { λ v. ⌜ ((xs : List TranslationOf) → storeAll (now (mem .exit)) (now (tables .exit)) xs (listOf v) ≡ storeAll (now (mem .entry)) (now (tables .entry)) (x ∷ y ∷ xs) (listOf w)) ⌝ }
+    ensures { λ v. ⌜ ((xs : List TranslationOf) → storeAll (now (mem .exit)) (now (tables .exit)) xs (wordsOf v) ≡ storeAll (now (mem .entry)) (now (tables .entry)) (x ∷ y ∷ xs) (wordsOf w)) ⌝ }
 {
     let v = stored(mem, tables, x, w);
     stored(mem, tables, y, v)
 }
 
 // The words are stored at the places to store to, in order.
-pub fn store_all(mem: &mut [u16], tables: &mut [u16], p: Places, w: Words)
+pub fn store_all(mem: &mut [u16], tables: &mut [u16], p: Places, w: Triple)
     requires { ⌜ AllWithin (length (now mem)) (placesOf p) ⌝ }
     requires { ⌜ length (now tables) ≡ 256 ⌝ }
-    ensures { λ _. ⌜ lent (now (mem .exit)) (now (tables .exit)) ≡ storeAll (now (mem .entry)) (now (tables .entry)) (placesOf p) (listOf w) ⌝ }
+    ensures { λ _. ⌜ lent (now (mem .exit)) (now (tables .exit)) ≡ storeAll (now (mem .entry)) (now (tables .entry)) (placesOf p) (wordsOf w) ⌝ }
 {
     match p {
         Places::Idle => {}

@@ -5,7 +5,7 @@ use mathlib.Core.Path.{_≡_, _∙_}
 use mathlib.Core.List.{List}
 use lib.ListN.{getD, set, length, length-set}
 use lib.Dec.{ltb}
-use Rattle.isa.specs.Machine.{reg, coreOf, withCore}
+use Rattle.isa.specs.Machine.{nextCore, reg, coreOf, withCore}
 use Rattle.isa.specs.Instructions.{indirectRequest, request, complete, Completed}
 use Rattle.isa.specs.Pages.{translate, marked, testAll, Tested, passes, wordAt, wordsAt, storeAll, rightsOf, markOf}
 use Rattle.isa.specs.Step.{Part, Turn, finished, operandsTested, operands, indirectTested, userStage, physicalAddress, examined, deposited, systemStage, privileged, instructionStage, instructionOf, afterFetch, fetched, fetchOf, stepIn, blockOrder, blockRequest, blockWords, blockStored, blockLoaded, blockTested, farStage, settled, isStopped, changeDue, step}
@@ -121,7 +121,7 @@ module _ (j k : ℕ) where
   instruction-size : (l : ℕ) (c : Core) (m t : List ℕ) (i : Instruction) → Sized j k m t → PartSized (instructionStage l c m t i)
   unfolding instructionStage
   instruction-size l c m t (Unprivileged u) h = user-size c m t u h
-  instruction-size l c m t (Privileged o) h = either PartSized (privileged c) (system-size l c m t o h) h
+  instruction-size l c m t (Privileged o) h = either PartSized (privileged c) (system-size l (nextCore c) m t o h) h
   instruction-size l c m t (Execute s) h = h
   instruction-size l c m t (Monitor n) h = h
   instruction-size l c m t Illegal h = h

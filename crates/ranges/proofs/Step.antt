@@ -50,7 +50,7 @@ failed-fits h x m t e f k = record { core = faulted-fits x e f h; far = tt; lent
 
 -- an interrupt that is not by an access
 trapped-fits : (n : ℕ) {c : Core} → 0 < n → n < 11 → CoreFits c → (m t : List ℕ) → LentFits m t → PartFits (trapped n c m t)
-trapped-fits n a b h m t k = record { core = gives-fits n a b (next-core-fits h); far = tt; lent = k }
+trapped-fits n a b h m t k = record { core = gives-fits n a b h; far = tt; lent = k }
 
 -- ---- an unprivileged instruction
 
@@ -109,8 +109,8 @@ unfolding examined
 examined-fits {c} h m t k =
     let a : ℕ = physicalAddress (c .file) in
     either PartFits (ltb a (length m))
-    (record { core = file-fits h (with-word (next-fits (h .file)) T refl (k .memory a)); far = tt; lent = k })
-    (failed-fits (next-core-fits h) OutOfRange m t refl tt k)
+    (record { core = file-fits h (with-word (h .file) T refl (k .memory a)); far = tt; lent = k })
+    (failed-fits h OutOfRange m t refl tt k)
 
 -- DEPO
 deposited-fits : {c : Core} → CoreFits c → (m t : List ℕ) → LentFits m t → PartFits (deposited c m t)
@@ -118,16 +118,16 @@ unfolding deposited
 deposited-fits {c} h m t k =
     let a : ℕ = physicalAddress (c .file) in
     let w : Words (set m a (reg (c .file) T)) = set-words m a (reg (c .file) T) (k .memory) (reg-word (h .file) T) in
-    either PartFits (ltb a (length m)) (record { core = next-core-fits h; far = tt; lent = record { memory = w; tables = k .tables } })
-    (failed-fits (next-core-fits h) OutOfRange m t refl tt k)
+    either PartFits (ltb a (length m)) (record { core = h; far = tt; lent = record { memory = w; tables = k .tables } })
+    (failed-fits h OutOfRange m t refl tt k)
 
--- what is done outside the level leaves P one further
-left-fits : {c : Core} → CoreFits c → (x : Far) (m t : List ℕ) → FarFits x → LentFits m t → PartFits (part (nextCore c) 0 x m t)
-left-fits h x m t f k = record { core = next-core-fits h; far = f; lent = k }
+-- what is done outside the level
+left-fits : {c : Core} → CoreFits c → (x : Far) (m t : List ℕ) → FarFits x → LentFits m t → PartFits (part c 0 x m t)
+left-fits h x m t f k = record { core = h; far = f; lent = k }
 
 -- each of them
 system-fits : (l : ℕ) {c : Core} → l < 16 → CoreFits c → (m t : List ℕ) (o : System) → LentFits m t → PartFits (systemStage l c m t o)
-system-fits l a h m t (ControlOf o) k = record { core = controlled-fits l a (next-core-fits h) o; far = tt; lent = k }
+system-fits l a h m t (ControlOf o) k = record { core = controlled-fits l a h o; far = tt; lent = k }
 system-fits l a h m t TraPgc k = left-fits h ReadPcr m t tt k
 system-fits l a h m t TrrPcr k = left-fits h WritePcr m t tt k
 system-fits l a h m t (Irr n r) k = left-fits h (ReadRegister n r) m t tt k
@@ -148,11 +148,12 @@ instruction-fits : (l : ℕ) {c : Core} → l < 16 → CoreFits c → (m t : Lis
 unfolding instructionStage
 instruction-fits l a h m t (Unprivileged u) k = user-fits h m t u k
 instruction-fits l {c} a h m t (Privileged o) k =
-    either PartFits (privileged c) (system-fits l a h m t o k) (trapped-fits 6 (omega arith) (omega arith) h m t k)
-instruction-fits l a h m t (Execute s) k = trapped-fits 4 (omega arith) (omega arith) h m t k
+    either PartFits (privileged c) (system-fits l a (next-core-fits h) m t o k)
+    (trapped-fits 6 (omega arith) (omega arith) (next-core-fits h) m t k)
+instruction-fits l a h m t (Execute s) k = trapped-fits 4 (omega arith) (omega arith) (next-core-fits h) m t k
 instruction-fits l a h m t (Monitor n) k =
     record { core = gives-fits 1 (omega arith) (omega arith) (next-core-fits h); far = bits-below 16 n; lent = k }
-instruction-fits l a h m t Illegal k = trapped-fits 4 (omega arith) (omega arith) h m t k
+instruction-fits l a h m t Illegal k = trapped-fits 4 (omega arith) (omega arith) (next-core-fits h) m t k
 
 -- a fetch may lower the ring
 after-fetch-fits : {c : Core} → CoreFits c → (ring : ℕ) (x : Translation) → CoreFits (afterFetch c ring x)

@@ -43,15 +43,15 @@ returns-2 c =
     let l = c .before .before .looked-up .ensures in
     (simp (l .0, i, p), simp (l .1, q, l .0, i, p))
 
-unmapped-requires : tie.Need-unmapped-requires
-unmapped-requires c κs = search needs
+physical-requires : tie.Need-physical-requires
+physical-requires c κs = search needs
 
 returns-3 : tie.Need-returns-3
 returns-3 c =
     let a = c .before .before .before .before .before .args in
     let x = access (a .k) (a .alternate) (a .a) in
     let h = sym (c .before .before .before .in-window .ensures) ∙ c .before .before .if1 .left in
-    (c .unmapped .ensures ∙ sym (unpaged-translated _ _ (a .r) x h (c .before .if2 .left)), sym (unpaged-marked _ _ (a .r) x h (c .before .if2 .left)))
+    (c .physical .ensures ∙ sym (unpaged-translated _ _ (a .r) x h (c .before .if2 .left)), sym (unpaged-marked _ _ (a .r) x h (c .before .if2 .left)))
 
 pub translate-spec : {M : Type 1} → statement M
 translate-spec =
@@ -65,5 +65,5 @@ translate-spec =
     looked-up-requires
     same-length
     returns-2
-    unmapped-requires
+    physical-requires
     returns-3)

@@ -3,8 +3,8 @@
 use borrow.Author.Needs.{needs}
 use borrow.Author.Tests.{lt-ltb, le-ltb}
 use Rattle.isa.specs.Pages.{withinMemory}
-use Rattle.paging.proofs.translation.unmapped.Statement.{statement}
-use Rattle.paging.proofs.translation.unmapped.Tie as tie
+use Rattle.paging.proofs.translation.physical.Statement.{statement}
+use Rattle.paging.proofs.translation.physical.Tie as tie
 
 in-memory-requires : tie.Need-in-memory-requires
 in-memory-requires c κs = search needs
@@ -17,5 +17,5 @@ returns-2 : tie.Need-returns-2
 unfolding withinMemory
 returns-2 c = simp (le-ltb _ _ (c .if1 .left))
 
-pub unmapped-spec : {M : Type 1} → statement M
-unmapped-spec = tie.close (tie.spec in-memory-requires returns returns-2)
+pub physical-spec : {M : Type 1} → statement M
+physical-spec = tie.close (tie.spec in-memory-requires returns returns-2)

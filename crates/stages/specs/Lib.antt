@@ -1,0 +1,3 @@
+-- What the stages of a step answer to, beside the definitions of the machine.
+pub mod Events
+pub mod Stages

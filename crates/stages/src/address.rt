@@ -1,0 +1,63 @@
+// The effective address of a memory operation.
+ghost use mathlib.Core.Path.{_≡_};
+ghost use Prim.Native.Nat.{_<_};
+ghost use lib.ListN.{length};
+ghost use Rattle.stages.specs.Stages.{Addressed, ByIndirect};
+use isa::access::Kind;
+use isa::access::Rights;
+use isa::access::Translation;
+use isa::instruction::Mode;
+use operands::address::first_address;
+use operands::indirect::after_indirect;
+use operands::indirect::first_rule;
+use operands::indirect::has_indirect;
+use paging::place::fault_of;
+use paging::place::word_at;
+use paging::translation::translate;
+
+// The address, or the failed access for the indirect word.
+pub enum Effective {
+    At(u16),
+    Failed(Translation),
+}
+
+// By the indirect word at a.
+fn by_indirect(
+    f: &[u16; 8],
+    r: Rights,
+    mem: &[u16],
+    tables: &mut [u16],
+    m: Mode,
+    a: u16,
+) -> Effective
+    requires { ⌜ (r .normal < 4) × (r .alternate < 4) ⌝ }
+    requires { ⌜ length (now tables) ≡ 256 ⌝ }
+    ensures { λ e. ⌜ ByIndirect (now (f .entry)) r m a (now (mem .entry)) (now (tables .entry)) e (now (tables .exit)) ⌝ }
+{
+    let x = translate(tables, mem.len(), r, Kind::Indirect, first_rule(m), a);
+    if fault_of(x) == 0 {
+        return Effective::At(after_indirect(m, f, word_at(mem, tables, x)));
+    }
+    Effective::Failed(x)
+}
+
+// Of mode m and displacement d, of an instruction at the address `at`.
+pub fn address_of(
+    f: &[u16; 8],
+    at: u16,
+    r: Rights,
+    mem: &[u16],
+    tables: &mut [u16],
+    m: Mode,
+    d: i16,
+) -> Effective
+    requires { ⌜ (r .normal < 4) × (r .alternate < 4) ⌝ }
+    requires { ⌜ length (now tables) ≡ 256 ⌝ }
+    ensures { λ e. ⌜ Addressed (now (f .entry)) at r m d (now (mem .entry)) (now (tables .entry)) e (now (tables .exit)) ⌝ }
+{
+    let a = first_address(m, d, f, at);
+    if has_indirect(m) {
+        return by_indirect(f, r, mem, tables, m, a);
+    }
+    Effective::At(a)
+}
