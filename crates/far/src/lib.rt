@@ -1,4 +1,4 @@
 // What an event of the running level leaves to be done with control words, other levels, and register blocks.
-pub mod event;
+pub mod level;
 mod registers;
 pub mod settle;

@@ -1,3 +1,2 @@
 -- What the stages of a step answer to, beside the definitions of the machine.
-pub mod Events
 pub mod Stages

@@ -7,7 +7,7 @@ use mathlib.Core.List.{List, [], _∷_}
 use lib.ListN.{getD, length}
 use lib.Dec.{eqb}
 use lib.IntN.{ℤ}
-use Rattle.isa.specs.Machine.{reg, next, nextCore}
+use Rattle.isa.specs.Machine.{reg, next, nextCore, withFile}
 use Rattle.isa.specs.Decode.{decode, sourceOf}
 use Rattle.isa.specs.Address.{access, firstRule, addressRule}
 use Rattle.isa.specs.Instructions.{Completed, memoryRequest, memoryCompletion, operand}
@@ -27,8 +27,8 @@ use Rattle.isa.specs.declared.machine.File.{File}
 use Rattle.isa.specs.declared.machine.Register.the-variants.{P}
 use Rattle.execute.specs.Effects.{fileOf, applied}
 use Rattle.operands.specs.Addresses.{afterIndirect}
-use Rattle.stages.specs.Events.{eventPart, doneIn}
-use Rattle.stages.specs.declared.event.Done.{Done}
+use Rattle.event.specs.Events.{eventPart}
+use Rattle.stages.specs.declared.done.Done.{Done}
 use Rattle.stages.specs.declared.address.Effective.{Effective}
 use Rattle.stages.specs.declared.address.Effective.the-variants.{At, Failed}
 use Rattle.stages.specs.declared.step.Quick.{Quick}
@@ -42,6 +42,10 @@ pub record Executing (c : Core) (ws : List ℕ) (r : Rights) : Type 0 where
 pub record ExecutingAt (c : Core) (ws : List ℕ) (a : ℕ) (r : Rights) : Type 0 where
   pub executing : Executing c ws r
   pub address : reg (c .file) P ≡ a
+
+-- the effect on the registers of c, of which P is one further, and the event
+abbrev pub doneIn : ℕ → Core → Done → List ℕ → List ℕ → Part
+doneIn l c d m t = eventPart l (withFile c (applied (d .effect) (next (c .file)))) m t (d .event)
 
 -- ---- at the effective address
 

@@ -2,7 +2,7 @@
 // event that names what is left to be done.
 mod address;
 mod byte;
-pub mod event;
+mod done;
 mod fetch;
 mod instruction;
 mod operation;

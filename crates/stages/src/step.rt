@@ -2,9 +2,9 @@
 ghost use mathlib.Core.Path.{_≡_};
 ghost use lib.ListN.{length};
 ghost use Rattle.stages.specs.Stages.{QuickStep};
-use crate::event::Event;
 use crate::fetch::after_fetch;
 use crate::instruction::executed_word;
+use event::Event;
 use execute::effect;
 use execute::effect::Effect;
 use isa::access::Kind;

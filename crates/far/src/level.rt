@@ -4,8 +4,9 @@ ghost use mathlib.Core.List.{List};
 ghost use Prim.Native.Nat.{ℕ, _<_};
 ghost use lib.ListN.{length};
 ghost use Rattle.isa.specs.Step.{faulted, failed, trapped, part, examined, deposited, systemStage, privileged, physicalAddress};
-ghost use Rattle.stages.specs.Events.{eventPart};
+ghost use Rattle.event.specs.Events.{eventPart};
 ghost use Rattle.far.specs.Settled.{partOf};
+use event::Event;
 use isa::access::Kind;
 use isa::access::Translation;
 use isa::answer::Far;
@@ -18,7 +19,6 @@ use paging::place::pgs_after;
 use paging::place::store_at;
 use paging::place::word_at;
 use paging::translation::physical;
-use stages::event::Event;
 use system::control::controlled;
 use system::interrupt::gives;
 

@@ -1,0 +1,2 @@
+-- How a step of the running level ends, as the definitions have it.
+pub mod Events
