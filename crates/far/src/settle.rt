@@ -5,7 +5,14 @@ ghost use Prim.Native.Nat.{_<_};
 ghost use lib.ListN.{length};
 ghost use Rattle.isa.specs.Machine.{pack};
 ghost use Rattle.isa.specs.Step.{farStage};
-ghost use Rattle.far.specs.Settled.{turnOf};
+ghost use Rattle.far.specs.Settled.{leaving, turnOf};
+use crate::block::block_loaded;
+use crate::block::block_stored;
+use crate::pcr::pcr_read;
+use crate::pcr::pcr_written;
+use crate::registers::called;
+use crate::registers::register_read;
+use crate::registers::register_written;
 use isa::answer::Far;
 use isa::answer::Near;
 use isa::machine::Core;
@@ -14,6 +21,15 @@ use isa::machine::Core;
 pub struct Settled {
     pub core: Core,
     pub gave: u16,
+}
+
+fn turned(c: Core, gave: u16) -> Settled
+    ensures { λ r. ⌜ r ≡ leaving c gave ⌝ }
+{
+    Settled {
+        core: c,
+        gave: gave,
+    }
 }
 
 // What the running level left to be done.
@@ -32,8 +48,15 @@ pub fn settle(
     ensures { λ r. ⌜ turnOf level r (now (regs .exit)) (now (pcrs .exit)) (now (mem .exit)) (now (tables .exit)) ≡ farStage (pack level (n .core) (now (regs .entry)) (now (pcrs .entry))) (n .gave) (now (mem .entry)) (now (tables .entry)) (n .far) ⌝ }
 {
     let c = n.core;
-    Settled {
-        core: c,
-        gave: n.gave,
+    let far = n.far;
+    match far {
+        Far::Nothing => turned(c, n.gave),
+        Far::Call(w) => turned(called(level, c, regs, w), n.gave),
+        Far::ReadRegister(l, r) => turned(register_read(level, c, regs, l, r), n.gave),
+        Far::WriteRegister(l, r) => turned(register_written(level, c, regs, l, r), n.gave),
+        Far::ReadPcr => turned(pcr_read(level, c, pcrs), n.gave),
+        Far::WritePcr => turned(pcr_written(level, c, pcrs), n.gave),
+        Far::StoreBlock(l) => block_stored(level, c, regs, mem, tables, l),
+        Far::LoadBlock(l) => block_loaded(level, c, regs, mem, tables, l),
     }
 }

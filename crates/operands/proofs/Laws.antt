@@ -3,6 +3,7 @@
 use Prim.Native.Nat.{ℕ}
 use mathlib.Core.Path.{_≡_, refl, ap, sym, _∙_, subst}
 use mathlib.Core.Bool.{Bool, true, false, cond}
+use mathlib.Core.Logic.{_⊎_, inl, inr}
 use mathlib.Core.List.{List, [], _∷_}
 use native.Mathlib.Omega.{arith}
 use lib.IntN.{ℤ}
@@ -224,30 +225,81 @@ isWriteMore (ReadMore n) = false
 isWriteMore (WriteMore n) = true
 isWriteMore Update = false
 
--- the first n of three words
-pub words-loaded :
-    (o : MemoryOp) (n : ℕ) (f : File) (a x y z : ℕ) → requestOf o ≡ ReadMore n
-    → wordsLoaded n f (x ∷ y ∷ z ∷ []) ≡ memoryCompletion o f a (take n (x ∷ y ∷ z ∷ []))
-words-loaded Ldd n f a x y z h = subst (λ (n : ℕ). wordsLoaded n f (x ∷ y ∷ z ∷ []) ≡ memoryCompletion Ldd f a (take n (x ∷ y ∷ z ∷ []))) (ap more h) refl
-words-loaded Ldf n f a x y z h = subst (λ (n : ℕ). wordsLoaded n f (x ∷ y ∷ z ∷ []) ≡ memoryCompletion Ldf f a (take n (x ∷ y ∷ z ∷ []))) (ap more h) refl
-words-loaded Stz n f a x y z h = absurd (no-both (ap isReadMore h))
-words-loaded Sta n f a x y z h = absurd (no-both (ap isReadMore h))
-words-loaded Stt n f a x y z h = absurd (no-both (ap isReadMore h))
-words-loaded Stx n f a x y z h = absurd (no-both (ap isReadMore h))
-words-loaded Std n f a x y z h = absurd (no-both (ap isReadMore h))
-words-loaded Stf n f a x y z h = absurd (no-both (ap isReadMore h))
-words-loaded Min n f a x y z h = absurd (no-both (ap isReadMore h))
-words-loaded Lda n f a x y z h = absurd (no-both (ap isReadMore h))
-words-loaded Ldt n f a x y z h = absurd (no-both (ap isReadMore h))
-words-loaded Ldx n f a x y z h = absurd (no-both (ap isReadMore h))
-words-loaded Add n f a x y z h = absurd (no-both (ap isReadMore h))
-words-loaded Sub n f a x y z h = absurd (no-both (ap isReadMore h))
-words-loaded And n f a x y z h = absurd (no-both (ap isReadMore h))
-words-loaded Ora n f a x y z h = absurd (no-both (ap isReadMore h))
-words-loaded Mpy n f a x y z h = absurd (no-both (ap isReadMore h))
-words-loaded Jmp n f a x y z h = absurd (no-both (ap isReadMore h))
-words-loaded Jpl n f a x y z h = absurd (no-both (ap isReadMore h))
+-- what a request tells of the operation o: more than one word are two or three, and MIN alone updates
+abbrev pub Tells : MemoryOp → Request → Type 0
+Tells o Idle = Unit {0}
+Tells o Read = Unit {0}
+Tells o Write = Unit {0}
+Tells o (ReadMore n) = (n ≡ 2) ⊎ (n ≡ 3)
+Tells o (WriteMore n) = (n ≡ 2) ⊎ (n ≡ 3)
+Tells o Update = o ≡ Min
 
+pub request-tells : (o : MemoryOp) → Tells o (requestOf o)
+request-tells Stz = tt
+request-tells Sta = tt
+request-tells Stt = tt
+request-tells Stx = tt
+request-tells Std = inl refl
+request-tells Ldd = inl refl
+request-tells Stf = inr refl
+request-tells Ldf = inr refl
+request-tells Min = refl
+request-tells Lda = tt
+request-tells Ldt = tt
+request-tells Ldx = tt
+request-tells Add = tt
+request-tells Sub = tt
+request-tells And = tt
+request-tells Ora = tt
+request-tells Mpy = tt
+request-tells Jmp = tt
+request-tells Jpl = tt
+
+-- no memory operation gives the error interrupt
+pub no-error : (o : MemoryOp) (f : File) (a : ℕ) (ws : List ℕ) → memoryCompletion o f a ws .error ≡ false
+no-error Stz f a ws = refl
+no-error Sta f a ws = refl
+no-error Stt f a ws = refl
+no-error Stx f a ws = refl
+no-error Std f a ws = refl
+no-error Ldd f a ws = refl
+no-error Stf f a ws = refl
+no-error Ldf f a ws = refl
+no-error Min f a ws = refl
+no-error Lda f a ws = refl
+no-error Ldt f a ws = refl
+no-error Ldx f a ws = refl
+no-error Add f a ws = refl
+no-error Sub f a ws = refl
+no-error And f a ws = refl
+no-error Ora f a ws = refl
+no-error Mpy f a ws = refl
+no-error Jmp f a ws = refl
+no-error Jpl f a ws = refl
+
+pub words-loaded :
+    (o : MemoryOp) (n : ℕ) (f : File) (a : ℕ) (ws : List ℕ) → requestOf o ≡ ReadMore n → wordsLoaded n f ws ≡ memoryCompletion o f a ws
+words-loaded Ldd n f a ws h = subst (λ (n : ℕ). wordsLoaded n f ws ≡ memoryCompletion Ldd f a ws) (ap more h) refl
+words-loaded Ldf n f a ws h = subst (λ (n : ℕ). wordsLoaded n f ws ≡ memoryCompletion Ldf f a ws) (ap more h) refl
+words-loaded Stz n f a ws h = absurd (no-both (ap isReadMore h))
+words-loaded Sta n f a ws h = absurd (no-both (ap isReadMore h))
+words-loaded Stt n f a ws h = absurd (no-both (ap isReadMore h))
+words-loaded Stx n f a ws h = absurd (no-both (ap isReadMore h))
+words-loaded Std n f a ws h = absurd (no-both (ap isReadMore h))
+words-loaded Stf n f a ws h = absurd (no-both (ap isReadMore h))
+words-loaded Min n f a ws h = absurd (no-both (ap isReadMore h))
+words-loaded Lda n f a ws h = absurd (no-both (ap isReadMore h))
+words-loaded Ldt n f a ws h = absurd (no-both (ap isReadMore h))
+words-loaded Ldx n f a ws h = absurd (no-both (ap isReadMore h))
+words-loaded Add n f a ws h = absurd (no-both (ap isReadMore h))
+words-loaded Sub n f a ws h = absurd (no-both (ap isReadMore h))
+words-loaded And n f a ws h = absurd (no-both (ap isReadMore h))
+words-loaded Ora n f a ws h = absurd (no-both (ap isReadMore h))
+words-loaded Mpy n f a ws h = absurd (no-both (ap isReadMore h))
+words-loaded Jmp n f a ws h = absurd (no-both (ap isReadMore h))
+words-loaded Jpl n f a ws h = absurd (no-both (ap isReadMore h))
+
+-- the first n of three words
 pub words-stored :
     (o : MemoryOp) (n : ℕ) (f : File) (a : ℕ) (ws : List ℕ) → requestOf o ≡ WriteMore n
     → storing f (take n (wordsStored n f)) ≡ memoryCompletion o f a ws

@@ -157,7 +157,7 @@ tables-within words Read i h = h
 tables-within words Write i h = h
 tables-within words Indirect i h = h
 
-physical-within : (words : ℕ) (k : Kind) (p : ℕ) → Within words (withinMemory words k p)
+pub physical-within : (words : ℕ) (k : Kind) (p : ℕ) → Within words (withinMemory words k p)
 unfolding withinMemory
 physical-within words k p = decided (Within words) (ltb p words) (λ h. memory-within words k p (ltb-true p words h)) (λ h. tt)
 

@@ -1,0 +1,2 @@
+-- Laws of what an event leaves to be done.
+pub mod Laws

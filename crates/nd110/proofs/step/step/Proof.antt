@@ -1,0 +1,70 @@
+-- By the answer: a run from a state in range, or the refusal.
+-- Assumes nothing.
+use mathlib.Core.Path.{_≡_, refl, sym, ap, _∙_}
+use Rattle.isa.specs.Answers.{stateAnswer, steppedCall, stepCallBy, stepCall}
+use Rattle.isa.specs.declared.answer.Answer.{Answer}
+use Rattle.isa.specs.declared.answer.Answer.the-variants.{Done}
+use Rattle.image.proofs.Laws.{sizes-of, tables-all}
+use Rattle.nd110.proofs.Laws.{level-of}
+use borrow.Author.Needs.{needs}
+use Rattle.nd110.proofs.step.step.Statement.{statement}
+use Rattle.nd110.proofs.step.step.Tie as tie
+
+state-answer-requires : tie.Need-state-answer-requires
+state-answer-requires c κs = search needs
+
+enum-told : tie.Need-enum-told
+enum-told c = search needs
+
+run-requires : tie.Need-run-requires
+run-requires c κs =
+    let asked = c .before .before .before .before in
+    let a = asked .before .before .before .before .before .args in
+    let done : stateAnswer (a .s) (a .mem .now) (a .tables .now) ≡ Done = sym (asked .state-answer .ensures) ∙ c .before .before .enum-told .given .1 in
+    (level-of (a .s) (a .mem .now) (a .tables .now) done, tables-all (a .mem .now) (a .tables .now) (sizes-of (a .s) (a .mem .now) (a .tables .now) done))
+
+enum-known-a : tie.Need-enum-known-a
+enum-known-a c = search needs
+
+same-length : tie.Need-same-length
+same-length c = search needs
+
+same-length-2 : tie.Need-same-length-2
+same-length-2 c = search needs
+
+returns : tie.Need-returns
+unfolding stepCall
+returns c =
+    let running = c .before .before .before .before .before in
+    let asked = running .before .before .before .before .before in
+    let a = asked .before .before .before .before .before .args in
+    let done : Done ≡ stateAnswer (a .s) (a .mem .now) (a .tables .now) = sym (running .before .before .before .enum-told .given .1) ∙ asked .state-answer .ensures in
+    ap steppedCall (running .run .ensures .1 refl refl) ∙ ap (λ (x : Answer). stepCallBy x (a .s) (a .mem .now) (a .tables .now)) done
+
+same-length-3 : tie.Need-same-length-3
+same-length-3 c = search needs
+
+same-length-4 : tie.Need-same-length-4
+same-length-4 c = search needs
+
+returns-2 : tie.Need-returns-2
+unfolding stepCall
+returns-2 c =
+    let asked = c .before .before .before in
+    let a = asked .before .before .before .before .before .args in
+    ap (λ (x : Answer). stepCallBy x (a .s) (a .mem .now) (a .tables .now)) (sym (c .before .a .given .1) ∙ asked .state-answer .ensures)
+
+pub step-spec : {M : Type 1} → statement M
+step-spec =
+    tie.close
+    (tie.spec
+    state-answer-requires
+    enum-told
+    run-requires
+    enum-known-a
+    same-length
+    same-length-2
+    returns
+    same-length-3
+    same-length-4
+    returns-2)

@@ -1,0 +1,2 @@
+-- The entry points' answers as calls of the definitions.
+pub mod Calls

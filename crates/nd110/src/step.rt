@@ -1,0 +1,36 @@
+// One step.
+ghost use mathlib.Core.Path.{_≡_};
+ghost use Rattle.isa.specs.Answers.{stepCall};
+ghost use Rattle.nd110.specs.Calls.{stepOf};
+use isa::answer::Answer;
+use isa::answer::StepAnswer;
+use isa::machine::State;
+use run::run;
+use state::state_answer;
+
+// What a step answers, and the state that it leaves.
+pub struct Stepped {
+    pub answer: StepAnswer,
+    pub state: State,
+}
+
+// Refusals 1 and 2.
+pub fn step(s: State, mem: &mut [u16], tables: &mut [u16]) -> Stepped
+    ensures { λ r. ⌜ stepOf r (now (mem .exit)) (now (tables .exit)) ≡ stepCall s (now (mem .entry)) (now (tables .entry)) ⌝ }
+{
+    let a = state_answer(s, mem, tables);
+    match a {
+        Answer::Done => {
+            let r = run(s, mem, tables, 1, false);
+            let after = r.state;
+            Stepped {
+                answer: StepAnswer::Stepped(r.gave),
+                state: after,
+            }
+        }
+        Answer::Refused(x) => Stepped {
+            answer: StepAnswer::Refused(x),
+            state: s,
+        },
+    }
+}

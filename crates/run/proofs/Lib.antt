@@ -1,0 +1,4 @@
+pub mod Laws
+pub mod Bursts
+pub mod Advances
+pub mod Loops

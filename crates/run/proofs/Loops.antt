@@ -1,0 +1,120 @@
+-- Where a run stands after so many steps, how it goes on, and how it ends.
+-- Assumes nothing.
+use Prim.Native.Nat.{ℕ, zero, suc, _+_, _-_, _<_, _≤_}
+use mathlib.Core.Path.{_≡_, refl, sym, ap, subst, _∙_}
+use mathlib.Core.Bool.{Bool, true, false, cond, not, _&&_}
+use mathlib.Core.List.{List}
+use native.Mathlib.Omega.{arith}
+use lib.Dec.{eqb}
+use Rattle.isa.specs.Machine.{pack}
+use Rattle.isa.specs.Step.{Turn, turn, step, isStopped, changeDue}
+use Rattle.isa.specs.Run.{Run, ended, afterStep, runFrom}
+use Rattle.isa.proofs.Runs.{run-stopped}
+use Rattle.isa.proofs.Tests.{no-both, and-left}
+use Rattle.isa.specs.declared.answer.Reason.{Reason}
+use Rattle.isa.specs.declared.answer.Reason.the-variants.{Stopped, Level, Spent, Interrupt}
+use Rattle.isa.specs.declared.machine.State.{State}
+use Rattle.run.specs.Runs.{dueAt, goesOn, Advance, reasonAtRest}
+use Rattle.run.specs.declared.advance.Advanced.{Advanced}
+use Rattle.run.specs.declared.machine.Ran.{Ran}
+use Rattle.run.proofs.Laws.{due-pack}
+
+-- a run of n steps from s stands at r, behind k of them
+pub record Going (first : Bool) (n : ℕ) (s : State) (m t : List ℕ) (k : ℕ) (r : Turn) : Type 0 where
+  pub most : k ≤ n
+  pub total : runFrom first n 0 s m t ≡ runFrom first (n - k) k (r .state) (r .memory) (r .tables)
+  pub none : k ≡ 0 → r ≡ turn s 0 m t
+  pub one : k ≡ 1 → r ≡ step s m t
+
+-- .. and ends there for the reason w; a run through of one step is the step
+abbrev pub Ended : Bool → ℕ → State → List ℕ → List ℕ → Reason → ℕ → Turn → Type 0
+Ended first n s m t w k r =
+    (ended w k (r .state) (r .memory) (r .tables) ≡ runFrom first n 0 s m t) × (n ≡ 1 → first ≡ false → r ≡ step s m t)
+
+-- what run_in answers
+abbrev pub Answered : ℕ → Bool → State → List ℕ → List ℕ → List ℕ → List ℕ → List ℕ → List ℕ → Ran → Type 0
+Answered n first s m t regs pcrs m' t' r =
+    (r .level < 16) × Ended first n s m t (r .reason) (r .steps) (turn (pack (r .level) (r .core) regs pcrs) (r .gave) m' t')
+
+-- a run to the first interrupt is not a run through
+not-through : (first y : Bool) → (first && y) ≡ true → first ≡ false → ⊥
+not-through first y h e = no-both (sym e ∙ and-left first y h)
+
+stopped-step : (s : State) (m t : List ℕ) → isStopped s ≡ true → turn s 0 m t ≡ step s m t
+unfolding step
+stopped-step s m t h = rw h
+
+-- before a step
+level-run : (first : Bool) (n k : ℕ) (s : State) (m t : List ℕ) → isStopped s ≡ false → (first && dueAt (s .level) (s .control)) ≡ true
+    → runFrom first n k s m t ≡ ended Level k s m t
+level-run first zero k s m t x d = rw (x, ap (first &&_) (due-pack s) ∙ d)
+level-run first (suc n) k s m t x d = rw (x, ap (first &&_) (due-pack s) ∙ d)
+
+rest-run : (first : Bool) (k : ℕ) (s : State) (m t : List ℕ) → runFrom first 0 k s m t ≡ ended (reasonAtRest first (s .level) (s .control)) k s m t
+rest-run first k s m t = ap (λ (b : Bool). cond (isStopped s) (ended Stopped k s m t) (cond b (ended Level k s m t) (ended Spent k s m t))) (ap (first &&_) (due-pack s)) ∙ go (isStopped s) (first && dueAt (s .level) (s .control))
+  where
+    go : (x y : Bool) → cond x (ended Stopped k s m t) (cond y (ended Level k s m t) (ended Spent k s m t)) ≡ ended (cond x Stopped (cond y Level Spent)) k s m t
+    go true y = refl
+    go false true = refl
+    go false false = refl
+
+pub at-start : (first : Bool) (n : ℕ) (s : State) (m t : List ℕ) → Going first n s m t 0 (turn s 0 m t)
+at-start first n s m t = record {
+  most = omega arith;
+  total = let e : n ≡ n - 0 = omega arith in ap (λ (x : ℕ). runFrom first x 0 s m t) e;
+  none = λ z. refl;
+  one = λ z. absurd (omega (arith, z));
+}
+
+module _ {first : Bool} {n : ℕ} {s : State} {m t : List ℕ} {k : ℕ} {r : Turn} (g : Going first n s m t k r) where
+  pub ends-stopped : k < n → isStopped (r .state) ≡ true → Ended first n s m t Stopped k r
+  ends-stopped h x = (
+    sym (run-stopped first (n - k) k (r .state) (r .memory) (r .tables) x) ∙ sym (g .total),
+    λ o f.
+        let e : r ≡ turn s 0 m t = g .none (omega (arith, o, h)) in
+        e ∙ stopped-step s m t (ap (λ (y : Turn). isStopped (y .state)) (sym e) ∙ x),
+  )
+
+  pub ends-level : isStopped (r .state) ≡ false → (first && dueAt (r .state .level) (r .state .control)) ≡ true → Ended first n s m t Level k r
+  ends-level x d = (
+    sym (level-run first (n - k) k (r .state) (r .memory) (r .tables) x d) ∙ sym (g .total),
+    λ o f. absurd (not-through first (dueAt (r .state .level) (r .state .control)) d f),
+  )
+
+  pub ends-at-rest : n ≤ k → Ended first n s m t (reasonAtRest first (r .state .level) (r .state .control)) k r
+  ends-at-rest h =
+      let e : n - k ≡ 0 = omega (arith, h, g .most) in (
+        sym (rest-run first k (r .state) (r .memory) (r .tables)) ∙ ap (λ (x : ℕ). runFrom first x k (r .state) (r .memory) (r .tables)) (sym e) ∙ sym (g .total),
+        λ o f. g .one (omega (arith, h, g .most, o)),
+      )
+
+  -- behind the steps of an advance to q
+  module _ (a : Advanced) (q : Turn) (h : k < n) (b : a .before < n - k)
+      (v : Advance (r .state) (r .memory) (r .tables) (n - k) a q)
+      (o : a .before ≡ 0 → step (r .state) (r .memory) (r .tables) ≡ q)
+      (d : (first && dueAt (r .state .level) (r .state .control)) ≡ false) where
+    behind : runFrom first n 0 s m t ≡ goesOn first (n - k) k (a .before) q
+    behind = g .total ∙ v first k d
+
+    only : k + a .before + 1 ≡ 1 → q ≡ step s m t
+    only z =
+        let e : r ≡ turn s 0 m t = g .none (omega (arith, z)) in
+        sym (o (omega (arith, z))) ∙ ap (λ (y : Turn). step (y .state) (y .memory) (y .tables)) e
+
+    pub ends-interrupt : (first && not (eqb (q .gave) 0)) ≡ true → Ended first n s m t Interrupt (k + a .before + 1) q
+    ends-interrupt x =
+        let e : k + a .before + 1 ≡ suc (k + a .before) = omega arith in (
+          ap (λ (y : ℕ). ended Interrupt y (q .state) (q .memory) (q .tables)) e ∙ rw x refl ∙ sym behind,
+          λ y f. absurd (not-through first (not (eqb (q .gave) 0)) x f),
+        )
+
+    pub goes-on : (first && not (eqb (q .gave) 0)) ≡ false → Going first n s m t (k + a .before + 1) q
+    goes-on x = record {
+      most = omega (arith, b, h);
+      total =
+          let e : suc (k + a .before) ≡ k + a .before + 1 = omega arith in
+          let i : n - k - suc (a .before) ≡ n - (k + a .before + 1) = omega arith in
+          behind ∙ rw x refl ∙ (λ z. runFrom first (i z) (e z) (q .state) (q .memory) (q .tables));
+      none = λ z. absurd (omega (arith, z));
+      one = only;
+    }

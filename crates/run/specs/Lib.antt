@@ -1,0 +1,2 @@
+-- What the loop answers to, beside the definitions of the machine.
+pub mod Runs

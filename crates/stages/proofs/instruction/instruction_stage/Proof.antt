@@ -1,0 +1,104 @@
+-- An unprivileged instruction by its stage; the others leave the registers as they are and end in their event.
+-- Assumes nothing.
+use mathlib.Core.Path.{sym, ap, _∙_}
+use mir.Syntax.{w16}
+use mir.Val.{SFits}
+use mir.ValLaws.{toZ-ofZ}
+use Rattle.isa.specs.Step.{instructionStage}
+use Rattle.event.specs.declared.Event.the-variants.{Monitor}
+use Rattle.event.specs.Events.{eventPart}
+use Rattle.stages.proofs.Stages.{event-left}
+use borrow.Author.Needs.{needs}
+use Rattle.stages.proofs.instruction.instruction_stage.Statement.{statement}
+use Rattle.stages.proofs.instruction.instruction_stage.Tie as tie
+
+enum-known-i : tie.Need-enum-known-i
+enum-known-i c = search needs
+
+user-stage-requires : tie.Need-user-stage-requires
+user-stage-requires c κs = search needs
+
+enum-known-i-2 : tie.Need-enum-known-i-2
+enum-known-i-2 c = search needs
+
+with-event-requires : tie.Need-with-event-requires
+with-event-requires c κs = search needs
+
+enum-told : tie.Need-enum-told
+enum-told c = search needs
+
+with-event-requires-2 : tie.Need-with-event-requires-2
+with-event-requires-2 c κs = search needs
+
+enum-known-i-3 : tie.Need-enum-known-i-3
+enum-known-i-3 c = search needs
+
+with-event-requires-3 : tie.Need-with-event-requires-3
+with-event-requires-3 c κs = search needs
+
+enum-told-2 : tie.Need-enum-told-2
+enum-told-2 c = search needs
+
+with-event-requires-4 : tie.Need-with-event-requires-4
+with-event-requires-4 c κs = search needs
+
+same-length : tie.Need-same-length
+same-length c = search needs
+
+same-length-2 : tie.Need-same-length-2
+same-length-2 c = search needs
+
+returns : tie.Need-returns
+unfolding instructionStage
+returns c =
+    let i = c .before .before .before .before .before .before .before .before in
+    let a = i .before .before .before .before .args in
+    λ l k s. c .before .before .before .before .user-stage .ensures l k s ∙ ap (instructionStage l k (a .mem .now) (a .tables .now)) (sym (i .i .given .1))
+
+returns-2 : tie.Need-returns-2
+unfolding instructionStage eventPart
+returns-2 c =
+    let a = c .before .before .before .before .before .before .args in
+    λ l k s. event-left l _ _ _ (s .executing) (c .with-event .ensures .0) (c .with-event .ensures .1) ∙ ap (instructionStage l k (a .mem .now) (a .tables .now)) (sym (c .before .before .i2 .given .1))
+
+returns-3 : tie.Need-returns-3
+unfolding instructionStage eventPart
+returns-3 c =
+    let a = c .before .before .before .before .before .args in
+    λ l k s. event-left l _ _ _ (s .executing) (c .with-event2 .ensures .0) (c .with-event2 .ensures .1) ∙ ap (instructionStage l k (a .mem .now) (a .tables .now)) (sym (c .before .enum-told .given .1))
+
+returns-4 : tie.Need-returns-4
+unfolding instructionStage eventPart
+returns-4 c =
+    let a = c .before .before .before .before .before .before .args in
+    let n = c .before .before .i3 .given .0 .0 in
+    let h : SFits w16 n = search needs in
+    λ l k s. event-left l _ _ _ (s .executing) (c .with-event3 .ensures .0) (c .with-event3 .ensures .1 ∙ ap Monitor (toZ-ofZ w16 n h)) ∙ ap (instructionStage l k (a .mem .now) (a .tables .now)) (sym (c .before .before .i3 .given .1))
+
+returns-5 : tie.Need-returns-5
+unfolding instructionStage eventPart
+returns-5 c =
+    let a = c .before .before .before .before .before .args in
+    λ l k s. event-left l _ _ _ (s .executing) (c .with-event4 .ensures .0) (c .with-event4 .ensures .1) ∙ ap (instructionStage l k (a .mem .now) (a .tables .now)) (sym (c .before .enum-told2 .given .1))
+
+pub instruction-stage-spec : {M : Type 1} → statement M
+instruction-stage-spec =
+    tie.close
+    (tie.spec
+    enum-known-i
+    user-stage-requires
+    enum-known-i-2
+    with-event-requires
+    enum-told
+    with-event-requires-2
+    enum-known-i-3
+    with-event-requires-3
+    enum-told-2
+    with-event-requires-4
+    same-length
+    same-length-2
+    returns
+    returns-2
+    returns-3
+    returns-4
+    returns-5)
