@@ -10,7 +10,7 @@ use isa::machine::State;
 
 pub mod pair;
 pub mod raise;
-pub mod run;
+pub mod runs;
 pub mod step;
 
 // The machine of an image. Refusals 1, 4 to 8 and 2.

@@ -4,6 +4,7 @@ use mathlib.Core.Path.{_≡_, sym, ap, subst, _∙_}
 use mathlib.Core.Bool.{true}
 use Rattle.isa.specs.Answers.{RunCall, runCall}
 use Rattle.isolation.specs.Statement.{Isolated}
+use Rattle.nd110.specs.Calls.{runOf}
 use Rattle.isolation.proofs.Theorem.{isolation}
 use borrow.Author.Needs.{needs}
 use Rattle.nd110.proofs.pair.run_two.Statement.{statement}
@@ -35,10 +36,13 @@ returns c =
     λ same h.
     let s = a .s in
     let t = a .tables .now in
-    let left = first .to-interrupt .ensures in
-    let right = later .to-interrupt2 .ensures ∙ ap (runCall true (a .n) s (a .right .now)) same in
-    subst (λ (q : RunCall). Isolated s t (a .left .now) (a .right .now) q _) (sym left)
-    (subst (Isolated s t (a .left .now) (a .right .now) (runCall true (a .n) s (a .left .now) t)) (sym right) (isolation (a .n) s t (a .left .now) (a .right .now) h))
+    let m = a .left .now in
+    let n = a .right .now in
+    let b = later .to-interrupt2 in
+    let q : RunCall = runOf (b .result) (b .last .1 .0) (b .last .1 .1 .0) in
+    let right : q ≡ runCall true (a .n) s n t = b .ensures ∙ ap (runCall true (a .n) s n) same in
+    subst (λ (r : RunCall). Isolated s t m n r q) (sym (first .to-interrupt .ensures))
+    (subst (Isolated s t m n (runCall true (a .n) s m t)) (sym right) (isolation (a .n) s t m n h))
 
 pub run-two-spec : {M : Type 1} → statement M
 run-two-spec =
