@@ -10,6 +10,7 @@ use crate::effect::reg;
 use crate::operand;
 use isa::instruction::Argument;
 use isa::machine::Register;
+use isa::machine::Registers;
 use word::quotient::Division;
 
 fn argument_register(r: Argument) -> Register
@@ -24,14 +25,14 @@ fn argument_register(r: Argument) -> Register
 }
 
 // SAx.
-pub fn set_argument(f: &[u16; 8], r: Argument, n: i16) -> Effect
+pub fn set_argument(f: &Registers, r: Argument, n: i16) -> Effect
     ensures { λ e. ⌜ completed e (fileOf (now (f .entry))) ≡ loads (withReg (fileOf (now (f .entry))) (argumentRegister r) (bitsOf 16 n)) ⌝ }
 {
     effect::one(f, argument_register(r), signed::word_of(n))
 }
 
 // AAx.
-pub fn add_argument(f: &[u16; 8], r: Argument, n: i16) -> Effect
+pub fn add_argument(f: &Registers, r: Argument, n: i16) -> Effect
     ensures { λ e. ⌜ completed e (fileOf (now (f .entry))) ≡ loads (takes (fileOf (now (f .entry))) (argumentRegister r) (adder (reg (fileOf (now (f .entry))) (argumentRegister r)) (bitsOf 16 n) 0)) ⌝ }
 {
     let t = argument_register(r);
@@ -39,7 +40,7 @@ pub fn add_argument(f: &[u16; 8], r: Argument, n: i16) -> Effect
 }
 
 // MIX3: X is (A - 1) * 3.
-pub fn mixed(f: &[u16; 8]) -> Effect
+pub fn mixed(f: &Registers) -> Effect
     ensures { λ e. ⌜ completed e (fileOf (now (f .entry))) ≡ loads (mixed (fileOf (now (f .entry)))) ⌝ }
 {
     let x = (reg(f, Register::A) as u32 + 65535) * 3 % 65536;
@@ -47,7 +48,7 @@ pub fn mixed(f: &[u16; 8]) -> Effect
 }
 
 // RMPY: the product's 32 bits in A and D.
-pub fn register_product(f: &[u16; 8], s: Register, d: Register) -> Effect
+pub fn register_product(f: &Registers, s: Register, d: Register) -> Effect
     ensures { λ e. ⌜ completed e (fileOf (now (f .entry))) ≡ loads (registerProduct (fileOf (now (f .entry))) s d) ⌝ }
 {
     if operand::is_zero(d) {
@@ -64,14 +65,14 @@ pub fn register_product(f: &[u16; 8], s: Register, d: Register) -> Effect
 }
 
 // A and D as one double word.
-pub fn double(f: &[u16; 8]) -> u32
+pub fn double(f: &Registers) -> u32
     ensures { λ n. ⌜ n ≡ doubleOf (fileOf (now (f .entry))) ⌝ }
 {
     reg(f, Register::A) as u32 * 65536 + reg(f, Register::D) as u32
 }
 
 // Z is set, and interrupt 5 is given.
-fn division_fails(f: &[u16; 8]) -> Effect
+fn division_fails(f: &Registers) -> Effect
     ensures { λ e. ⌜ completed e (fileOf (now (f .entry))) ≡ failing (fileOf (now (f .entry))) ⌝ }
 {
     let mut e = effect::only_flags(f, word::bits::with_bit(3, 1, reg(f, Register::Sts)));
@@ -80,7 +81,7 @@ fn division_fails(f: &[u16; 8]) -> Effect
 }
 
 // RDIV by d.
-pub fn divided(f: &[u16; 8], d: u16) -> Effect
+pub fn divided(f: &Registers, d: u16) -> Effect
     ensures { λ e. ⌜ completed e (fileOf (now (f .entry))) ≡ divided (fileOf (now (f .entry))) d ⌝ }
 {
     let q = word::quotient::divide(double(f), d);

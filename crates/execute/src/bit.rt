@@ -12,6 +12,7 @@ use crate::effect::reg;
 use crate::operand;
 use isa::instruction::BitOp;
 use isa::machine::Register;
+use isa::machine::Registers;
 
 // Whether bit n of the register is never written: bits 8 to 15 of STS.
 fn is_fixed(r: Register, n: u16) -> bool
@@ -24,7 +25,7 @@ fn is_fixed(r: Register, n: u16) -> bool
 }
 
 // The register's word with bit n as v says.
-fn put_word(f: &[u16; 8], r: Register, n: u16, v: u16) -> u16
+fn put_word(f: &Registers, r: Register, n: u16, v: u16) -> u16
     requires { ⌜ (n < 16) × (v < 2) ⌝ }
     ensures { λ w. ⌜ w ≡ cond (isZero r && leb 8 n) (reg (fileOf (now (f .entry))) r) (withBit n v (reg (fileOf (now (f .entry))) r)) ⌝ }
 {
@@ -34,14 +35,14 @@ fn put_word(f: &[u16; 8], r: Register, n: u16, v: u16) -> u16
     word::bits::with_bit(n, v, reg(f, r))
 }
 
-fn put_bit(f: &[u16; 8], r: Register, n: u16, v: u16) -> Effect
+fn put_bit(f: &Registers, r: Register, n: u16, v: u16) -> Effect
     requires { ⌜ (n < 16) × (v < 2) ⌝ }
     ensures { λ e. ⌜ completed e (fileOf (now (f .entry))) ≡ loads (putBit (fileOf (now (f .entry))) r n v) ⌝ }
 {
     effect::one(f, r, put_word(f, r, n, v))
 }
 
-fn put_k(f: &[u16; 8], k: u16) -> Effect
+fn put_k(f: &Registers, k: u16) -> Effect
     requires { ⌜ k < 2 ⌝ }
     ensures { λ e. ⌜ completed e (fileOf (now (f .entry))) ≡ loads (withFlag flagK k (fileOf (now (f .entry)))) ⌝ }
 {
@@ -49,7 +50,7 @@ fn put_k(f: &[u16; 8], k: u16) -> Effect
 }
 
 // The bit takes v, then K takes k.
-fn put_both(f: &[u16; 8], r: Register, n: u16, v: u16, k: u16) -> Effect
+fn put_both(f: &Registers, r: Register, n: u16, v: u16, k: u16) -> Effect
     requires { ⌜ (n < 16) × ((v < 2) × (k < 2)) ⌝ }
     ensures { λ e. ⌜ completed e (fileOf (now (f .entry))) ≡ loads (withFlag flagK k (putBit (fileOf (now (f .entry))) r n v)) ⌝ }
 {
@@ -79,7 +80,7 @@ fn either(x: u16, y: u16) -> u16
 }
 
 // b is the bit, k the flag K.
-fn bit_completion(o: BitOp, f: &[u16; 8], r: Register, n: u16, b: u16, k: u16) -> Effect
+fn bit_completion(o: BitOp, f: &Registers, r: Register, n: u16, b: u16, k: u16) -> Effect
     requires { ⌜ (n < 16) × ((b < 2) × (k < 2)) ⌝ }
     ensures { λ e. ⌜ completed e (fileOf (now (f .entry))) ≡ loads (bitCompletion o (fileOf (now (f .entry))) r n b k) ⌝ }
 {
@@ -104,7 +105,7 @@ fn bit_completion(o: BitOp, f: &[u16; 8], r: Register, n: u16, b: u16, k: u16) -
 }
 
 // Bit n of the register r; its number has four bits.
-pub fn bit_done(o: BitOp, f: &[u16; 8], n: u16, r: Register) -> Effect
+pub fn bit_done(o: BitOp, f: &Registers, n: u16, r: Register) -> Effect
     ensures { λ e. ⌜ completed e (fileOf (now (f .entry))) ≡ loads (bitDone o (fileOf (now (f .entry))) n r) ⌝ }
 {
     let m = n % 16;

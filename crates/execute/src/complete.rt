@@ -10,10 +10,11 @@ use crate::jump;
 use crate::operand;
 use crate::shift;
 use isa::instruction::User;
+use isa::machine::Registers;
 
 // The instruction u at the address `at`, by the registers f, of which P is one further. One that makes accesses changes nothing
 // here.
-pub fn complete(u: User, f: &[u16; 8], at: u16) -> Effect
+pub fn complete(u: User, f: &Registers, at: u16) -> Effect
     ensures { λ e. ⌜ completed e (fileOf (now (f .entry))) ≡ registerCompletion u (fileOf (now (f .entry))) at ⌝ }
 {
     match u {

@@ -7,6 +7,7 @@ ghost use Rattle.isa.specs.Instructions.{loads, skipIf, takes};
 ghost use Rattle.isa.specs.declared.machine.Register.the-variants.{Sts};
 ghost use Rattle.execute.specs.Effects.{fileOf, completed};
 use isa::machine::Register;
+use isa::machine::Registers;
 
 // P, STS and T take these values, then the second register, then the first; and whether the error interrupt, 5, is given.
 pub struct Effect {
@@ -20,7 +21,7 @@ pub struct Effect {
     pub error: bool,
 }
 
-pub fn reg(f: &[u16; 8], r: Register) -> u16
+pub fn reg(f: &Registers, r: Register) -> u16
     ensures { λ v. ⌜ v ≡ reg (fileOf (now (f .entry))) r ⌝ }
 {
     let i = r.index();
@@ -29,7 +30,7 @@ pub fn reg(f: &[u16; 8], r: Register) -> u16
 
 // STS takes a value, then the second register, then the first.
 pub fn flagged(
-    f: &[u16; 8],
+    f: &Registers,
     sts: u16,
     first: Register,
     value: u16,
@@ -51,39 +52,39 @@ pub fn flagged(
 }
 
 // The second register takes a value, then the first.
-pub fn two(f: &[u16; 8], first: Register, value: u16, second: Register, other: u16) -> Effect
+pub fn two(f: &Registers, first: Register, value: u16, second: Register, other: u16) -> Effect
     ensures { λ e. ⌜ completed e (fileOf (now (f .entry))) ≡ loads (withReg (withReg (fileOf (now (f .entry))) second other) first value) ⌝ }
 {
     flagged(f, reg(f, Register::Sts), first, value, second, other)
 }
 
 // STS takes a value, then a register.
-pub fn with_flags(f: &[u16; 8], sts: u16, r: Register, v: u16) -> Effect
+pub fn with_flags(f: &Registers, sts: u16, r: Register, v: u16) -> Effect
     ensures { λ e. ⌜ completed e (fileOf (now (f .entry))) ≡ loads (withReg (withReg (fileOf (now (f .entry))) Sts sts) r v) ⌝ }
 {
     flagged(f, sts, r, v, Register::T, reg(f, Register::T))
 }
 
-pub fn one(f: &[u16; 8], r: Register, v: u16) -> Effect
+pub fn one(f: &Registers, r: Register, v: u16) -> Effect
     ensures { λ e. ⌜ completed e (fileOf (now (f .entry))) ≡ loads (withReg (fileOf (now (f .entry))) r v) ⌝ }
 {
     two(f, r, v, Register::T, reg(f, Register::T))
 }
 
-pub fn none(f: &[u16; 8]) -> Effect
+pub fn none(f: &Registers) -> Effect
     ensures { λ e. ⌜ completed e (fileOf (now (f .entry))) ≡ loads (fileOf (now (f .entry))) ⌝ }
 {
     one(f, Register::P, reg(f, Register::P))
 }
 
-pub fn only_flags(f: &[u16; 8], sts: u16) -> Effect
+pub fn only_flags(f: &Registers, sts: u16) -> Effect
     ensures { λ e. ⌜ completed e (fileOf (now (f .entry))) ≡ loads (withReg (fileOf (now (f .entry))) Sts sts) ⌝ }
 {
     with_flags(f, sts, Register::P, reg(f, Register::P))
 }
 
 // The next instruction is skipped, or not.
-pub fn skip_if(c: bool, f: &[u16; 8]) -> Effect
+pub fn skip_if(c: bool, f: &Registers) -> Effect
     ensures { λ e. ⌜ completed e (fileOf (now (f .entry))) ≡ loads (skipIf c (fileOf (now (f .entry)))) ⌝ }
 {
     if c {
@@ -97,7 +98,7 @@ pub fn skip_if(c: bool, f: &[u16; 8]) -> Effect
 }
 
 // A register takes the sum of a, b and the carry in c, and STS its flags.
-pub fn takes(f: &[u16; 8], r: Register, a: u16, b: u16, c: u16) -> Effect
+pub fn takes(f: &Registers, r: Register, a: u16, b: u16, c: u16) -> Effect
     requires { ⌜ c < 2 ⌝ }
     ensures { λ e. ⌜ completed e (fileOf (now (f .entry))) ≡ loads (takes (fileOf (now (f .entry))) r (adder a b c)) ⌝ }
 {

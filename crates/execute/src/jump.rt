@@ -9,6 +9,7 @@ use crate::effect::Effect;
 use crate::effect::reg;
 use isa::instruction::Condition;
 use isa::machine::Register;
+use isa::machine::Registers;
 
 fn negative(w: u16) -> bool
     ensures { λ b. ⌜ b ≡ negative w ⌝ }
@@ -16,7 +17,7 @@ fn negative(w: u16) -> bool
     32768 <= w
 }
 
-fn jump_if(c: bool, a: u16, f: &[u16; 8]) -> Effect
+fn jump_if(c: bool, a: u16, f: &Registers) -> Effect
     ensures { λ e. ⌜ completed e (fileOf (now (f .entry))) ≡ loads (jumpIf c a (fileOf (now (f .entry)))) ⌝ }
 {
     if c {
@@ -26,7 +27,7 @@ fn jump_if(c: bool, a: u16, f: &[u16; 8]) -> Effect
 }
 
 // X takes x, and then a jump or none.
-fn count_x(c: bool, x: u16, a: u16, f: &[u16; 8]) -> Effect
+fn count_x(c: bool, x: u16, a: u16, f: &Registers) -> Effect
     ensures { λ e. ⌜ completed e (fileOf (now (f .entry))) ≡ loads (jumpIf c a (withReg (fileOf (now (f .entry))) X x)) ⌝ }
 {
     if c {
@@ -36,7 +37,7 @@ fn count_x(c: bool, x: u16, a: u16, f: &[u16; 8]) -> Effect
 }
 
 // By A or X; JPC and JNC count X first. The target is a.
-pub fn jumped(o: Condition, a: u16, f: &[u16; 8]) -> Effect
+pub fn jumped(o: Condition, a: u16, f: &Registers) -> Effect
     ensures { λ e. ⌜ completed e (fileOf (now (f .entry))) ≡ loads (jumped o a (fileOf (now (f .entry)))) ⌝ }
 {
     let x = reg(f, Register::X);

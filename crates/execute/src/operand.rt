@@ -13,6 +13,7 @@ use isa::instruction::CarryIn;
 use isa::instruction::LogicOp;
 use isa::instruction::Relation;
 use isa::machine::Register;
+use isa::machine::Registers;
 
 pub fn is_zero(r: Register) -> bool
     ensures { λ b. ⌜ b ≡ isZero r ⌝ }
@@ -21,7 +22,7 @@ pub fn is_zero(r: Register) -> bool
 }
 
 // Operand 0 is the value 0.
-pub fn operand(f: &[u16; 8], r: Register) -> u16
+pub fn operand(f: &Registers, r: Register) -> u16
     ensures { λ v. ⌜ v ≡ operand (fileOf (now (f .entry))) r ⌝ }
 {
     if is_zero(r) {
@@ -31,7 +32,7 @@ pub fn operand(f: &[u16; 8], r: Register) -> u16
 }
 
 // Destination 0 takes no result.
-fn result(f: &[u16; 8], r: Register, v: u16) -> Effect
+fn result(f: &Registers, r: Register, v: u16) -> Effect
     ensures { λ e. ⌜ completed e (fileOf (now (f .entry))) ≡ loads (result (fileOf (now (f .entry))) r v) ⌝ }
 {
     if is_zero(r) {
@@ -41,7 +42,7 @@ fn result(f: &[u16; 8], r: Register, v: u16) -> Effect
 }
 
 // CLD: zero in place of the destination operand.
-pub fn destination_operand(f: &[u16; 8], cld: bool, d: Register) -> u16
+pub fn destination_operand(f: &Registers, cld: bool, d: Register) -> u16
     ensures { λ v. ⌜ v ≡ destinationOperand (fileOf (now (f .entry))) cld d ⌝ }
 {
     if cld {
@@ -51,7 +52,7 @@ pub fn destination_operand(f: &[u16; 8], cld: bool, d: Register) -> u16
 }
 
 // CM1: the complement of the source.
-pub fn source_operand(f: &[u16; 8], cm1: bool, s: Register) -> u16
+pub fn source_operand(f: &Registers, cm1: bool, s: Register) -> u16
     ensures { λ v. ⌜ v ≡ sourceOperand (fileOf (now (f .entry))) cm1 s ⌝ }
 {
     if cm1 {
@@ -61,7 +62,7 @@ pub fn source_operand(f: &[u16; 8], cm1: bool, s: Register) -> u16
 }
 
 // SWAP: the destination takes x, then the source y.
-fn swapped(f: &[u16; 8], x: u16, y: u16, s: Register, d: Register) -> Effect
+fn swapped(f: &Registers, x: u16, y: u16, s: Register, d: Register) -> Effect
     ensures { λ e. ⌜ completed e (fileOf (now (f .entry))) ≡ loads (combined Swap (fileOf (now (f .entry))) x y s d) ⌝ }
 {
     if is_zero(d) {
@@ -74,7 +75,7 @@ fn swapped(f: &[u16; 8], x: u16, y: u16, s: Register, d: Register) -> Effect
 }
 
 // x is the source operand, y the destination operand.
-pub fn combined(o: LogicOp, f: &[u16; 8], x: u16, y: u16, s: Register, d: Register) -> Effect
+pub fn combined(o: LogicOp, f: &Registers, x: u16, y: u16, s: Register, d: Register) -> Effect
     ensures { λ e. ⌜ completed e (fileOf (now (f .entry))) ≡ loads (combined o (fileOf (now (f .entry))) x y s d) ⌝ }
 {
     match o {
@@ -86,7 +87,7 @@ pub fn combined(o: LogicOp, f: &[u16; 8], x: u16, y: u16, s: Register, d: Regist
 }
 
 // AD1 adds one, ADC the carry flag.
-pub fn carry_in(c: CarryIn, f: &[u16; 8]) -> u16
+pub fn carry_in(c: CarryIn, f: &Registers) -> u16
     ensures { λ v. ⌜ v ≡ carryIn c (fileOf (now (f .entry))) ⌝ }
     ensures { λ v. ⌜ v < 2 ⌝ }
 {
@@ -98,7 +99,7 @@ pub fn carry_in(c: CarryIn, f: &[u16; 8]) -> u16
 }
 
 // Destination 0: C is cleared, and nothing else changes.
-pub fn added(f: &[u16; 8], d: Register, y: u16, x: u16, c: u16) -> Effect
+pub fn added(f: &Registers, d: Register, y: u16, x: u16, c: u16) -> Effect
     requires { ⌜ c < 2 ⌝ }
     ensures { λ e. ⌜ completed e (fileOf (now (f .entry))) ≡ loads (added (fileOf (now (f .entry))) d (adder y x c)) ⌝ }
 {
@@ -109,7 +110,7 @@ pub fn added(f: &[u16; 8], d: Register, y: u16, x: u16, c: u16) -> Effect
 }
 
 // Destination 0 never skips.
-pub fn skipped(f: &[u16; 8], r: Relation, s: Register, d: Register) -> Effect
+pub fn skipped(f: &Registers, r: Relation, s: Register, d: Register) -> Effect
     ensures { λ e. ⌜ completed e (fileOf (now (f .entry))) ≡ loads (skipIf (not (isZero d) && compares r (operand (fileOf (now (f .entry))) d) (operand (fileOf (now (f .entry))) s)) (fileOf (now (f .entry)))) ⌝ }
 {
     if is_zero(d) {

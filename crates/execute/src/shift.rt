@@ -11,9 +11,10 @@ use crate::operand;
 use isa::instruction::ShiftKind;
 use isa::instruction::ShiftTarget;
 use isa::machine::Register;
+use isa::machine::Registers;
 
 // One register.
-fn shift_in(f: &[u16; 8], r: Register, k: ShiftKind, n: i16) -> Effect
+fn shift_in(f: &Registers, r: Register, k: ShiftKind, n: i16) -> Effect
     ensures { λ e. ⌜ completed e (fileOf (now (f .entry))) ≡ loads (shiftIn (fileOf (now (f .entry))) r k n) ⌝ }
 {
     let sts = reg(f, Register::Sts);
@@ -22,7 +23,7 @@ fn shift_in(f: &[u16; 8], r: Register, k: ShiftKind, n: i16) -> Effect
 }
 
 // A and D as one double word.
-fn shift_double(f: &[u16; 8], k: ShiftKind, n: i16) -> Effect
+fn shift_double(f: &Registers, k: ShiftKind, n: i16) -> Effect
     ensures { λ e. ⌜ completed e (fileOf (now (f .entry))) ≡ loads (shiftDouble (fileOf (now (f .entry))) k n) ⌝ }
 {
     let sts = reg(f, Register::Sts);
@@ -49,7 +50,7 @@ fn shift_register(t: ShiftTarget) -> Register
     }
 }
 
-pub fn shifted(f: &[u16; 8], t: ShiftTarget, k: ShiftKind, n: i16) -> Effect
+pub fn shifted(f: &Registers, t: ShiftTarget, k: ShiftKind, n: i16) -> Effect
     ensures { λ e. ⌜ completed e (fileOf (now (f .entry))) ≡ loads (shifted (fileOf (now (f .entry))) t k n) ⌝ }
 {
     let r = shift_register(t);

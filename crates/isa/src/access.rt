@@ -14,10 +14,11 @@ pub struct Access {
     pub address: u16,
 }
 
-// What an access is judged by: paging, the user's ring, and the tables that the normal and the alternate rule name.
+// What an access is judged by: paging, the user's ring, and the tables that the normal and the alternate rule name. The ring has
+// 32 bits for speed: a struct of eight bytes in all is copied as one number, and taken apart by shifts at each use.
 pub struct Rights {
     pub paging: bool,
-    pub ring: u16,
+    pub ring: u32,
     pub normal: u16,
     pub alternate: u16,
 }

@@ -33,9 +33,12 @@ impl Register {
     }
 }
 
+// The words of a level's registers, in the order of their numbers.
+pub type Registers = [u16; 8];
+
 // A level's registers are one file, and a write changes one place of it.
 pub struct File {
-    pub words: [u16; 8],
+    pub words: Registers,
 }
 
 impl File {

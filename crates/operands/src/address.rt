@@ -6,9 +6,10 @@ ghost use Rattle.operands.specs.Addresses.{baseAt, firstAt};
 use execute::effect::reg;
 use isa::instruction::Mode;
 use isa::machine::Register;
+use isa::machine::Registers;
 
 // What the displacement is added to; `at` is the instruction's own address.
-fn base(m: Mode, f: &[u16; 8], at: u16) -> u16
+fn base(m: Mode, f: &Registers, at: u16) -> u16
     ensures { λ a. ⌜ a ≡ baseAt m (fileOf (now (f .entry))) at ⌝ }
 {
     match m {
@@ -24,7 +25,7 @@ fn base(m: Mode, f: &[u16; 8], at: u16) -> u16
 }
 
 // Base and displacement: the effective address, or where the indirect word stands.
-pub fn first_address(m: Mode, d: i16, f: &[u16; 8], at: u16) -> u16
+pub fn first_address(m: Mode, d: i16, f: &Registers, at: u16) -> u16
     ensures { λ a. ⌜ a ≡ firstAt m d (fileOf (now (f .entry))) at ⌝ }
 {
     std::num::wrapping_add_u16(base(m, f, at), signed::word_of(d))

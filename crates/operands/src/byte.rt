@@ -8,22 +8,23 @@ use execute::effect;
 use execute::effect::Effect;
 use execute::effect::reg;
 use isa::machine::Register;
+use isa::machine::Registers;
 
 // Word T + X/2, X unsigned.
-pub fn byte_address(f: &[u16; 8]) -> u16
+pub fn byte_address(f: &Registers) -> u16
     ensures { λ a. ⌜ a ≡ byteAddress (fileOf (now (f .entry))) ⌝ }
 {
     std::num::wrapping_add_u16(reg(f, Register::T), reg(f, Register::X) / 2)
 }
 
-fn even_x(f: &[u16; 8]) -> bool
+fn even_x(f: &Registers) -> bool
     ensures { λ b. ⌜ b ≡ evenX (fileOf (now (f .entry))) ⌝ }
 {
     reg(f, Register::X) % 2 == 0
 }
 
 // The byte of the word w.
-fn loaded_byte(f: &[u16; 8], w: u16) -> u16
+fn loaded_byte(f: &Registers, w: u16) -> u16
     ensures { λ b. ⌜ b ≡ loadedByte (fileOf (now (f .entry))) w ⌝ }
 {
     if even_x(f) {
@@ -33,14 +34,14 @@ fn loaded_byte(f: &[u16; 8], w: u16) -> u16
 }
 
 // LBYT: A takes the byte of the word w.
-pub fn byte_loaded(f: &[u16; 8], w: u16) -> Effect
+pub fn byte_loaded(f: &Registers, w: u16) -> Effect
     ensures { λ e. ⌜ completed e (fileOf (now (f .entry))) ≡ byteLoaded (fileOf (now (f .entry))) w ⌝ }
 {
     effect::one(f, Register::A, loaded_byte(f, w))
 }
 
 // SBYT: the word w with A's lower byte in it.
-pub fn stored_byte(f: &[u16; 8], w: u16) -> u16
+pub fn stored_byte(f: &Registers, w: u16) -> u16
     ensures { λ v. ⌜ v ≡ storedByte (fileOf (now (f .entry))) w ⌝ }
 {
     let b = reg(f, Register::A) % 256;

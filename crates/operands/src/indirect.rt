@@ -6,6 +6,7 @@ ghost use Rattle.operands.specs.Addresses.{hasIndirect, afterIndirect};
 use execute::effect::reg;
 use isa::instruction::Mode;
 use isa::machine::Register;
+use isa::machine::Registers;
 
 // Whether the mode has an indirect word.
 pub fn has_indirect(m: Mode) -> bool
@@ -40,7 +41,7 @@ pub fn first_rule(m: Mode) -> bool
 }
 
 // The effective address by the indirect word i.
-pub fn after_indirect(m: Mode, f: &[u16; 8], i: u16) -> u16
+pub fn after_indirect(m: Mode, f: &Registers, i: u16) -> u16
     ensures { λ a. ⌜ a ≡ afterIndirect m (fileOf (now (f .entry))) i ⌝ }
 {
     match m {

@@ -7,9 +7,10 @@ use execute::effect::Effect;
 use execute::effect::reg;
 use isa::instruction::MemoryOp;
 use isa::machine::Register;
+use isa::machine::Registers;
 
 // To the address a, JPL with P in L.
-pub fn jumps(o: MemoryOp, f: &[u16; 8], a: u16) -> Effect
+pub fn jumps(o: MemoryOp, f: &Registers, a: u16) -> Effect
     ensures { λ e. ⌜ completed e (fileOf (now (f .entry))) ≡ jumpTaken o (fileOf (now (f .entry))) a ⌝ }
 {
     match o {

@@ -13,9 +13,10 @@ use execute::effect::reg;
 use isa::access::Triple;
 use isa::instruction::MemoryOp;
 use isa::machine::Register;
+use isa::machine::Registers;
 
 // A takes its sum with w and the carry in c, and STS the flags.
-fn added_word(f: &[u16; 8], w: u16, c: u16) -> Effect
+fn added_word(f: &Registers, w: u16, c: u16) -> Effect
     requires { ⌜ c < 2 ⌝ }
     ensures { λ e. ⌜ completed e (fileOf (now (f .entry))) ≡ wordAdded (fileOf (now (f .entry))) w c ⌝ }
 {
@@ -23,7 +24,7 @@ fn added_word(f: &[u16; 8], w: u16, c: u16) -> Effect
 }
 
 // MPY: A takes the product's low 16 bits, and STS O and Q.
-fn multiplied(f: &[u16; 8], w: u16) -> Effect
+fn multiplied(f: &Registers, w: u16) -> Effect
     ensures { λ e. ⌜ completed e (fileOf (now (f .entry))) ≡ loads (multiplied (fileOf (now (f .entry))) w) ⌝ }
 {
     let p = word::product::multiply(reg(f, Register::A), w);
@@ -36,7 +37,7 @@ fn multiplied(f: &[u16; 8], w: u16) -> Effect
 }
 
 // An operation that reads one word, w.
-pub fn loaded(o: MemoryOp, f: &[u16; 8], w: u16) -> Effect
+pub fn loaded(o: MemoryOp, f: &Registers, w: u16) -> Effect
     ensures { λ e. ⌜ completed e (fileOf (now (f .entry))) ≡ wordLoaded o (fileOf (now (f .entry))) w ⌝ }
 {
     match o {
@@ -63,7 +64,7 @@ pub fn loaded(o: MemoryOp, f: &[u16; 8], w: u16) -> Effect
 }
 
 // LDF: T, A and D take the words.
-fn triple(f: &[u16; 8], w: Triple) -> Effect
+fn triple(f: &Registers, w: Triple) -> Effect
     ensures { λ e. ⌜ completed e (fileOf (now (f .entry))) ≡ memoryCompletion Ldf (fileOf (now (f .entry))) 0 (wordsOf w) ⌝ }
 {
     Effect {
@@ -79,7 +80,7 @@ fn triple(f: &[u16; 8], w: Triple) -> Effect
 }
 
 // LDD by two words, LDF by three.
-pub fn loaded_more(n: u16, f: &[u16; 8], w: Triple) -> Effect
+pub fn loaded_more(n: u16, f: &Registers, w: Triple) -> Effect
     ensures { λ e. ⌜ completed e (fileOf (now (f .entry))) ≡ wordsLoaded n (fileOf (now (f .entry))) (wordsOf w) ⌝ }
 {
     if n == 2 {
@@ -96,7 +97,7 @@ pub fn one_more(w: u16) -> u16
 }
 
 // MIN: a skip where the word written is 0.
-pub fn incremented(f: &[u16; 8], w: u16) -> Effect
+pub fn incremented(f: &Registers, w: u16) -> Effect
     ensures { λ e. ⌜ completed e (fileOf (now (f .entry))) ≡ loads (incremented (fileOf (now (f .entry))) w .file) ⌝ }
 {
     effect::skip_if(one_more(w) == 0, f)

@@ -7,9 +7,10 @@ use execute::effect::reg;
 use isa::access::Triple;
 use isa::instruction::MemoryOp;
 use isa::machine::Register;
+use isa::machine::Registers;
 
 // The word of an operation that writes one.
-pub fn stored(o: MemoryOp, f: &[u16; 8]) -> u16
+pub fn stored(o: MemoryOp, f: &Registers) -> u16
     ensures { λ w. ⌜ w ≡ wordStored o (fileOf (now (f .entry))) ⌝ }
 {
     match o {
@@ -36,7 +37,7 @@ pub fn stored(o: MemoryOp, f: &[u16; 8]) -> u16
 }
 
 // STD's two words, or STF's three.
-pub fn stored_more(n: u16, f: &[u16; 8]) -> Triple
+pub fn stored_more(n: u16, f: &Registers) -> Triple
     ensures { λ w. ⌜ wordsOf w ≡ wordsStored n (fileOf (now (f .entry))) ⌝ }
 {
     if n == 2 {

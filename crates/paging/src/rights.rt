@@ -25,7 +25,7 @@ pub fn rights(sts: u16, p: u16, paging: u16) -> Rights
 {
     Rights {
         paging: paging == 1,
-        ring: p % 4,
+        ring: (p % 4) as u32,
         normal: p / 512 % 4,
         alternate: alternate_of(sts, p),
     }

@@ -50,7 +50,7 @@ fn refused(e: u16, k: Kind, slot: u16) -> Translation
 
 // The access by the entry at the slot, and its mark where it passes. An entry with the needed permit has some permit, so that is
 // asked only where the needed one is missing.
-fn looked_up(tables: &mut [u16], words: usize, ring: u16, k: Kind, slot: u16, a: u16) -> Translation
+fn looked_up(tables: &mut [u16], words: usize, ring: u32, k: Kind, slot: u16, a: u16) -> Translation
     requires { ⌜ slot < 256 ⌝ }
     requires { ⌜ length (now tables) ≡ 256 ⌝ }
     ensures { λ x. ⌜ x ≡ judged (entryAt (now (tables .entry)) slot) slot words ring k a ⌝ }
@@ -59,7 +59,7 @@ fn looked_up(tables: &mut [u16], words: usize, ring: u16, k: Kind, slot: u16, a:
     let i = slot as usize;
     let e = tables[i];
     if permitted(e, k) {
-        if e / 512 % 4 <= ring {
+        if (e / 512 % 4) as u32 <= ring {
             let p = (e % 512) as usize * 1024 + (a % 1024) as usize;
             if p < words {
                 tables[i] = mark(k, e);

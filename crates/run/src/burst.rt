@@ -8,6 +8,7 @@ ghost use Rattle.run.specs.Runs.{QuietSteps, QuietStep};
 use event::Event;
 use execute::effect::Effect;
 use isa::machine::File;
+use isa::machine::Registers;
 use stages::step::step_in;
 
 // The registers and the PCR after the last step, the steps before it, and how it ended.
@@ -19,7 +20,7 @@ pub struct Burst {
 }
 
 // The registers take what an instruction made of them.
-fn apply(f: &mut [u16; 8], e: Effect)
+fn apply(f: &mut Registers, e: Effect)
     ensures { λ _. ⌜ fileOf (now (f .exit)) ≡ applied e (fileOf (now (f .entry))) ⌝ }
     ensures { λ _. ⌜ length (now (f .exit)) ≡ length (now (f .entry)) ⌝ }
 {
@@ -34,7 +35,7 @@ fn apply(f: &mut [u16; 8], e: Effect)
     f[i] = e.value;
 }
 
-fn burst_of(words: [u16; 8], pcr: u16, before: u64, event: Event) -> Burst
+fn burst_of(words: Registers, pcr: u16, before: u64, event: Event) -> Burst
     ensures { λ b. ⌜ b ≡ record { file = fileOf words; pcr = pcr; before = before; event = event } ⌝ }
 {
     Burst {

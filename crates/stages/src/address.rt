@@ -7,6 +7,7 @@ use isa::access::Kind;
 use isa::access::Rights;
 use isa::access::Translation;
 use isa::instruction::Mode;
+use isa::machine::Registers;
 use operands::address::first_address;
 use operands::indirect::after_indirect;
 use operands::indirect::first_rule;
@@ -23,7 +24,7 @@ pub enum Effective {
 
 // By the indirect word at a.
 fn by_indirect(
-    f: &[u16; 8],
+    f: &Registers,
     r: Rights,
     mem: &[u16],
     tables: &mut [u16],
@@ -43,7 +44,7 @@ fn by_indirect(
 
 // Of mode m and displacement d, of an instruction at the address `at`.
 pub fn address_of(
-    f: &[u16; 8],
+    f: &Registers,
     at: u16,
     r: Rights,
     mem: &[u16],

@@ -12,6 +12,7 @@ use execute::effect;
 use isa::access::Kind;
 use isa::access::Rights;
 use isa::access::Triple;
+use isa::machine::Registers;
 use operands::byte::byte_address;
 use operands::byte::byte_loaded;
 use operands::byte::stored_byte;
@@ -24,7 +25,7 @@ use places::test::test_all;
 use places::words::read_all;
 use places::words::store_all;
 
-pub fn load_byte(f: &[u16; 8], r: Rights, mem: &[u16], tables: &mut [u16]) -> Done
+pub fn load_byte(f: &Registers, r: Rights, mem: &[u16], tables: &mut [u16]) -> Done
     requires { ⌜ (r .normal < 4) × (r .alternate < 4) ⌝ }
     requires { ⌜ length (now tables) ≡ 256 ⌝ }
     ensures { λ d. ⌜ ByteOperation (now (f .entry)) r LoadByte (now (mem .entry)) (now (tables .entry)) d (now (mem .entry)) (now (tables .exit)) ⌝ }
@@ -36,7 +37,7 @@ pub fn load_byte(f: &[u16; 8], r: Rights, mem: &[u16], tables: &mut [u16]) -> Do
     with_event(f, Event::Failed(x))
 }
 
-pub fn store_byte(f: &[u16; 8], r: Rights, mem: &mut [u16], tables: &mut [u16]) -> Done
+pub fn store_byte(f: &Registers, r: Rights, mem: &mut [u16], tables: &mut [u16]) -> Done
     requires { ⌜ (r .normal < 4) × (r .alternate < 4) ⌝ }
     requires { ⌜ length (now tables) ≡ 256 ⌝ }
     ensures { λ d. ⌜ ByteOperation (now (f .entry)) r StoreByte (now (mem .entry)) (now (tables .entry)) d (now (mem .exit)) (now (tables .exit)) ⌝ }

@@ -6,6 +6,7 @@ ghost use Rattle.execute.specs.Effects.{fileOf, completed};
 use event::Event;
 use execute::effect;
 use execute::effect::Effect;
+use isa::machine::Registers;
 
 // What is made of the level's registers, of which P is one further, and how the instruction ended.
 pub struct Done {
@@ -24,7 +25,7 @@ pub fn fine(e: Effect) -> Done
 }
 
 // The registers are left as they are.
-pub fn with_event(f: &[u16; 8], e: Event) -> Done
+pub fn with_event(f: &Registers, e: Event) -> Done
     ensures { λ d. ⌜ completed (d .effect) (fileOf (now (f .entry))) ≡ loads (fileOf (now (f .entry))) ⌝ }
     ensures { λ d. ⌜ d .event ≡ e ⌝ }
 {

@@ -10,11 +10,12 @@ use crate::user::user_stage;
 use event::Event;
 use isa::access::Rights;
 use isa::instruction::Instruction;
+use isa::machine::Registers;
 use paging::rights::rights;
 
 // An instruction after EXR was followed: EXR itself is illegal here.
 fn instruction_stage(
-    f: &[u16; 8],
+    f: &Registers,
     at: u16,
     r: Rights,
     mem: &mut [u16],
@@ -35,7 +36,7 @@ fn instruction_stage(
 }
 
 // EXR's word is that of its register, 0 for register 0: so the decoder is called at one place.
-fn followed(f: &[u16; 8], w: u16) -> u16
+fn followed(f: &Registers, w: u16) -> u16
     ensures { λ v. ⌜ v ≡ followed (fileOf (now (f .entry))) w ⌝ }
 {
     if w / 64 == 774 {
@@ -50,7 +51,7 @@ fn followed(f: &[u16; 8], w: u16) -> u16
 
 // The word w, fetched from the address `at`, with the PCR p; the registers have P one further.
 pub fn executed_word(
-    f: &[u16; 8],
+    f: &Registers,
     at: u16,
     p: u16,
     paging: u16,

@@ -12,12 +12,13 @@ use crate::single::write_word;
 use crate::update::increment;
 use isa::access::Rights;
 use isa::instruction::MemoryOp;
+use isa::machine::Registers;
 use operands::jump::jumps;
 use operands::request::Request;
 use operands::request::request_of;
 
 pub fn operated(
-    f: &[u16; 8],
+    f: &Registers,
     r: Rights,
     mem: &mut [u16],
     tables: &mut [u16],

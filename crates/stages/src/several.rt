@@ -12,6 +12,7 @@ use event::Event;
 use execute::effect;
 use isa::access::Rights;
 use isa::instruction::MemoryOp;
+use isa::machine::Registers;
 use operands::load::loaded_more;
 use operands::store::stored_more;
 use paging::place::fault_of;
@@ -22,7 +23,7 @@ use places::words::read_all;
 use places::words::store_all;
 
 pub fn read_more(
-    f: &[u16; 8],
+    f: &Registers,
     r: Rights,
     mem: &[u16],
     tables: &mut [u16],
@@ -45,7 +46,7 @@ pub fn read_more(
 }
 
 pub fn write_more(
-    f: &[u16; 8],
+    f: &Registers,
     r: Rights,
     mem: &mut [u16],
     tables: &mut [u16],

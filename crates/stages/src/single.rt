@@ -13,6 +13,7 @@ use execute::effect;
 use isa::access::Kind;
 use isa::access::Rights;
 use isa::instruction::MemoryOp;
+use isa::machine::Registers;
 use operands::load::loaded;
 use operands::store::stored;
 use paging::place::fault_of;
@@ -21,7 +22,7 @@ use paging::place::word_at;
 use paging::translation::translate;
 
 pub fn read_word(
-    f: &[u16; 8],
+    f: &Registers,
     r: Rights,
     mem: &[u16],
     tables: &mut [u16],
@@ -42,7 +43,7 @@ pub fn read_word(
 }
 
 pub fn write_word(
-    f: &[u16; 8],
+    f: &Registers,
     r: Rights,
     mem: &mut [u16],
     tables: &mut [u16],

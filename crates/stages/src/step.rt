@@ -8,6 +8,7 @@ use event::Event;
 use execute::effect;
 use execute::effect::Effect;
 use isa::access::Kind;
+use isa::machine::Registers;
 use paging::place::fault_of;
 use paging::place::word_at;
 use paging::rights::rights;
@@ -22,7 +23,7 @@ pub struct Quick {
 }
 
 // P is made one further as soon as the fetch has passed; the other registers are left for the effect.
-pub fn step_in(f: &mut [u16; 8], p: u16, paging: u16, mem: &mut [u16], tables: &mut [u16]) -> Quick
+pub fn step_in(f: &mut Registers, p: u16, paging: u16, mem: &mut [u16], tables: &mut [u16]) -> Quick
     requires { ⌜ length (now tables) ≡ 256 ⌝ }
     ensures { λ q. ⌜ QuickStep (now (f .entry)) p paging (now (mem .entry)) (now (tables .entry)) q (now (f .exit)) (now (mem .exit)) (now (tables .exit)) ⌝ }
     ensures { λ q. ⌜ length (now (f .exit)) ≡ length (now (f .entry)) ⌝ }

@@ -10,6 +10,7 @@ use crate::done::with_event;
 use event::Event;
 use isa::access::Rights;
 use isa::access::Triple;
+use isa::machine::Registers;
 use operands::load::incremented;
 use operands::load::one_more;
 use paging::place::fault_of;
@@ -20,7 +21,7 @@ use places::words::read_all;
 use places::words::store_all;
 
 pub fn increment(
-    f: &[u16; 8],
+    f: &Registers,
     r: Rights,
     mem: &mut [u16],
     tables: &mut [u16],

@@ -22,10 +22,11 @@ use isa::access::Rights;
 use isa::instruction::MemoryOp;
 use isa::instruction::Mode;
 use isa::instruction::User;
+use isa::machine::Registers;
 use operands::address::address_rule;
 
 fn memory_stage(
-    f: &[u16; 8],
+    f: &Registers,
     at: u16,
     r: Rights,
     mem: &mut [u16],
@@ -46,7 +47,7 @@ fn memory_stage(
 }
 
 // An instruction that makes no access, whatever memory and tables hold.
-fn register_stage(u: User, f: &[u16; 8], at: u16) -> Done
+fn register_stage(u: User, f: &Registers, at: u16) -> Done
     requires { ⌜ inRegisters u ≡ true ⌝ }
     ensures { λ d. ⌜ ((r : RightsOf) (m t : List ℕ) → UserStage (now (f .entry)) at r u m t d m t) ⌝ }
 {
@@ -84,7 +85,7 @@ fn in_registers(u: User) -> bool
 
 // LBYT, SBYT, or an instruction that makes no access.
 fn other_stage(
-    f: &[u16; 8],
+    f: &Registers,
     at: u16,
     r: Rights,
     mem: &mut [u16],
@@ -106,7 +107,7 @@ fn other_stage(
 }
 
 pub fn user_stage(
-    f: &[u16; 8],
+    f: &Registers,
     at: u16,
     r: Rights,
     mem: &mut [u16],

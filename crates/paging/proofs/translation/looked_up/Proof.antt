@@ -16,6 +16,9 @@ slice-read-e c = search needs
 permitted-requires : tie.Need-permitted-requires
 permitted-requires c κs = search needs
 
+cast-if2 : tie.Need-cast-if2
+cast-if2 c = search needs
+
 cast-p : tie.Need-cast-p
 cast-p c = search needs
 
@@ -77,6 +80,7 @@ looked-up-spec =
     mul-e
     slice-read-e
     permitted-requires
+    cast-if2
     cast-p
     mul-p
     cast-p-2
