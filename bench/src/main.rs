@@ -1,65 +1,106 @@
-//! Runs the sketch and the second engine on one image, and compares them.
+//! The proved engine and the second engine on one image: runs, single steps, load and write; and how a run's time grows.
 mod image;
 
+use image::Image;
 use second::State;
 use std::time::Instant;
 
+const REPETITIONS: usize = 5;
+
 extern "C" {
-    fn sketch_run(
-        regs: *mut u16,
-        regs_len: usize,
-        control: *mut u16,
-        control_len: usize,
-        pcrs: *mut u16,
-        pcrs_len: usize,
+    fn nd110_run(
+        state: *mut u16,
+        state_len: usize,
         memory: *mut u16,
         memory_len: usize,
         tables: *mut u16,
         tables_len: usize,
-        steps: u64,
-        first: u16,
-    ) -> u64;
+        n: u64,
+        steps: *mut u64,
+        reason: *mut u16,
+    ) -> u16;
+    fn nd110_step(
+        state: *mut u16,
+        state_len: usize,
+        memory: *mut u16,
+        memory_len: usize,
+        tables: *mut u16,
+        tables_len: usize,
+        interrupt: *mut u16,
+    ) -> u16;
+    fn nd110_load(
+        state: *mut u16,
+        state_len: usize,
+        image: *const u16,
+        image_len: usize,
+        memory: *mut u16,
+        memory_len: usize,
+        tables: *mut u16,
+        tables_len: usize,
+    ) -> u16;
+    fn nd110_write(
+        state: *const u16,
+        state_len: usize,
+        memory: *const u16,
+        memory_len: usize,
+        tables: *const u16,
+        tables_len: usize,
+        out: *mut u16,
+        out_len: usize,
+    ) -> u16;
 }
 
-/// What a run leaves: steps, registers and control words in image order, memory, tables.
+/// What is left: the state's words in image order, memory, tables; and the seconds that it took.
 struct Left {
-    steps: u64,
     words: Vec<u16>,
     memory: Vec<u16>,
     tables: Vec<u16>,
     seconds: f64,
 }
 
-fn ours(steps: u64) -> Left {
-    let image = image::image();
-    let words = image.state.to_words();
+/// The image with so many pages of memory.
+fn start(pages: usize) -> Image {
+    let mut image = image::image();
+    image.memory.resize(pages * 1024, 0);
+    image
+}
+
+/// A run through, or as many calls of the step.
+fn ours(pages: usize, n: u64, single: bool) -> Left {
+    let image = start(pages);
+    let mut words = image.state.to_words().to_vec();
     let (mut memory, mut tables) = (image.memory, image.tables);
-    let mut regs = words[..128].to_vec();
-    let mut control = words[128..138].to_vec();
-    control.push(0);
-    let mut pcrs = words[138..].to_vec();
+    let (mut taken, mut reason, mut interrupt) = (0u64, 0u16, 0u16);
+    let (s, m, t) = (
+        words.as_mut_ptr(),
+        memory.as_mut_ptr(),
+        tables.as_mut_ptr(),
+    );
     let began = Instant::now();
-    // SAFETY: the lengths are those that the function requires.
-    let taken = unsafe {
-        sketch_run(
-            regs.as_mut_ptr(),
-            regs.len(),
-            control.as_mut_ptr(),
-            control.len(),
-            pcrs.as_mut_ptr(),
-            pcrs.len(),
-            memory.as_mut_ptr(),
-            memory.len(),
-            tables.as_mut_ptr(),
-            tables.len(),
-            steps,
-            0,
-        )
+    // SAFETY: each pointer is lent with its own length.
+    let refused = unsafe {
+        if single {
+            (0..n)
+                .map(|_| nd110_step(s, 154, m, memory.len(), t, 256, &mut interrupt))
+                .sum()
+        } else {
+            nd110_run(
+                s,
+                154,
+                m,
+                memory.len(),
+                t,
+                256,
+                n,
+                &mut taken,
+                &mut reason,
+            )
+        }
     };
     let seconds = began.elapsed().as_secs_f64();
-    let words = [&regs[..], &control[..10], &pcrs[..]].concat();
+    assert_eq!((refused, interrupt), (0, 0));
+    assert!(single || taken == n);
     Left {
-        steps: taken,
         words,
         memory,
         tables,
@@ -67,15 +108,20 @@ fn ours(steps: u64) -> Left {
     }
 }
 
-fn rust(steps: u64) -> Left {
-    let image = image::image();
+fn rust(pages: usize, n: u64, single: bool) -> Left {
+    let image = start(pages);
     let mut state: State = image.state;
     let (mut memory, mut tables) = (image.memory, image.tables);
     let began = Instant::now();
-    let (taken, _) = second::run(&mut state, &mut memory, &mut tables, steps, false).unwrap();
+    if single {
+        for _ in 0..n {
+            second::step(&mut state, &mut memory, &mut tables).unwrap();
+        }
+    } else {
+        second::run(&mut state, &mut memory, &mut tables, n, false).unwrap();
+    }
     let seconds = began.elapsed().as_secs_f64();
     Left {
-        steps: taken,
         words: state.to_words().to_vec(),
         memory,
         tables,
@@ -83,10 +129,71 @@ fn rust(steps: u64) -> Left {
     }
 }
 
-fn checksum(words: &[u16]) -> u64 {
-    words.iter().fold(0u64, |s, w| {
-        s.wrapping_mul(1_000_003).wrapping_add(u64::from(*w))
-    })
+/// Write and load `n` times over.
+fn our_images(pages: usize, n: u64) -> Left {
+    let image = start(pages);
+    let mut words = image.state.to_words().to_vec();
+    let (mut memory, mut tables) = (image.memory, image.tables);
+    let mut out = vec![0u16; memory.len() + second::IMAGE_EXTRA];
+    let began = Instant::now();
+    for _ in 0..n {
+        // SAFETY: each pointer is lent with its own length.
+        let refused = unsafe {
+            nd110_write(
+                words.as_ptr(),
+                154,
+                memory.as_ptr(),
+                memory.len(),
+                tables.as_ptr(),
+                256,
+                out.as_mut_ptr(),
+                out.len(),
+            ) + nd110_load(
+                words.as_mut_ptr(),
+                154,
+                out.as_ptr(),
+                out.len(),
+                memory.as_mut_ptr(),
+                memory.len(),
+                tables.as_mut_ptr(),
+                256,
+            )
+        };
+        assert_eq!(refused, 0);
+    }
+    let seconds = began.elapsed().as_secs_f64();
+    Left {
+        words,
+        memory,
+        tables,
+        seconds,
+    }
+}
+
+fn rust_images(pages: usize, n: u64) -> Left {
+    let image = start(pages);
+    let mut state = image.state;
+    let (mut memory, mut tables) = (image.memory, image.tables);
+    let mut out = vec![0u16; memory.len() + second::IMAGE_EXTRA];
+    let began = Instant::now();
+    for _ in 0..n {
+        second::write(&state, &memory, &tables, &mut out).unwrap();
+        state = second::load(&out, &mut memory, &mut tables).unwrap();
+    }
+    let seconds = began.elapsed().as_secs_f64();
+    Left {
+        words: state.to_words().to_vec(),
+        memory,
+        tables,
+        seconds,
+    }
+}
+
+fn same(a: &Left, b: &Left) {
+    assert!(a.words == b.words, "registers and control words");
+    assert!(a.memory == b.memory, "memory");
+    assert!(a.tables == b.tables, "tables");
+    assert_eq!(a.words[135], 0, "the image gives no interrupt");
 }
 
 fn median(mut times: Vec<f64>) -> f64 {
@@ -94,43 +201,79 @@ fn median(mut times: Vec<f64>) -> f64 {
     times[times.len() / 2]
 }
 
-fn compare(a: &Left, b: &Left) {
-    assert_eq!(a.steps, b.steps, "steps");
-    assert_eq!(a.words, b.words, "registers and control words");
-    assert_eq!(checksum(&a.memory), checksum(&b.memory), "memory");
-    assert_eq!(checksum(&a.tables), checksum(&b.tables), "tables");
+/// Both in turn, so often; the medians and their ratio.
+fn both(label: &str, n: u64, ours: impl Fn() -> Left, rust: impl Fn() -> Left) -> f64 {
+    let (mut a, mut b) = (Vec::new(), Vec::new());
+    for _ in 0..REPETITIONS {
+        let (x, y) = (ours(), rust());
+        same(&x, &y);
+        a.push(x.seconds);
+        b.push(y.seconds);
+    }
+    let (a, b) = (median(a), median(b));
+    let ns = 1e9 / n as f64;
+    println!(
+        "{label}: median ns each: ours {:.2}, Rust {:.2}; ours over Rust {:.3}",
+        a * ns,
+        b * ns,
+        a / b
+    );
+    a / b
+}
+
+/// A run's time for more steps, and for more memory, over that of the least.
+fn growth(steps: u64) {
+    let time = |pages, n| {
+        median(
+            (0..REPETITIONS)
+                .map(|_| ours(pages, n, false).seconds)
+                .collect(),
+        )
+    };
+    let least = time(64, steps);
+    for k in [2, 4, 8] {
+        println!(
+            "run of {k} times the steps: {:.2} times the time",
+            time(64, k * steps) / least
+        );
+    }
+    for pages in [128, 256, 512] {
+        println!(
+            "run with {} times the memory: {:.2} times the time",
+            pages / 64,
+            time(pages, steps) / least
+        );
+    }
 }
 
 fn main() {
     let args: Vec<String> = std::env::args().collect();
     let steps: u64 = args.get(2).map_or(30_000_000, |s| s.parse().unwrap());
     match args.get(1).map(String::as_str) {
-        Some("ours") => println!("{}", ours(steps).steps),
-        Some("rust") => println!("{}", rust(steps).steps),
-        Some("trace") => {
-            for n in 1..=steps {
-                let (a, b) = (ours(n), rust(n));
-                println!("{n} P {:06o} IID {:o}", b.words[2], b.words[135]);
-                compare(&a, &b);
-            }
-        }
+        Some("ours") => println!("{}", ours(64, steps, false).words[2]),
+        Some("rust") => println!("{}", rust(64, steps, false).words[2]),
         _ => {
-            let (mut a, mut b) = (Vec::new(), Vec::new());
-            for _ in 0..5 {
-                let (x, y) = (ours(steps), rust(steps));
-                compare(&x, &y);
-                assert_eq!(x.words[135], 0, "the image gives no interrupt");
-                a.push(x.seconds);
-                b.push(y.seconds);
-            }
-            let ns = 1e9 / steps as f64;
-            let (a, b) = (median(a), median(b));
-            println!(
-                "{steps} steps; median ns a step: sketch {:.2}, Rust {:.2}",
-                a * ns,
-                b * ns
+            let few = (steps / 20).max(1);
+            both(
+                "write and load of 64 pages",
+                100,
+                || our_images(64, 100),
+                || rust_images(64, 100),
             );
-            println!("ratio {:.3}", a / b);
+            both(
+                "step calls",
+                few,
+                || ours(64, few, true),
+                || rust(64, few, true),
+            );
+            growth(few);
+            let ratio = both(
+                "run",
+                steps,
+                || ours(64, steps, false),
+                || rust(64, steps, false),
+            );
+            println!("ratio {ratio:.3}");
         }
     }
 }

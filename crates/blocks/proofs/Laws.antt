@@ -18,7 +18,8 @@ use Rattle.isa.specs.declared.access.Translation.{Translation}
 use Rattle.isa.proofs.Tests.{either, no-both}
 use Rattle.paging.specs.Within.{AllWithin}
 use Rattle.paging.specs.Outcome.{Outcome}
-use Rattle.blocks.specs.Blocks.{halfAt, Storing, AllStoring}
+use Rattle.blocks.specs.Blocks.{halfAt, AllStoring}
+use Rattle.paging.specs.Within.{isStore}
 
 all-within : (words : ℕ) (xs ys : List Translation) → AllWithin words xs → AllWithin words ys → AllWithin words (xs ++ ys)
 all-within words [] ys h k = k
@@ -84,22 +85,22 @@ by-halves k a = simp sums
 
 -- ---- a write that passed is stored
 
-within-stored : (words p : ℕ) → passes (withinMemory words Write p) ≡ true → Storing (withinMemory words Write p)
+within-stored : (words p : ℕ) → passes (withinMemory words Write p) ≡ true → isStore (withinMemory words Write p) ≡ true
 unfolding withinMemory
-within-stored words p = either (λ (x : Translation). passes x ≡ true → Storing x) (ltb p words) (λ h. tt) (λ h. absurd (no-both h))
+within-stored words p = either (λ (x : Translation). passes x ≡ true → isStore x ≡ true) (ltb p words) (λ h. refl) (λ h. absurd (no-both h))
 
-judged-stored : (e : Entry) (slot words ring a : ℕ) → passes (judged e slot words ring Write a) ≡ true → Storing (judged e slot words ring Write a)
+judged-stored : (e : Entry) (slot words ring a : ℕ) → passes (judged e slot words ring Write a) ≡ true → isStore (judged e slot words ring Write a) ≡ true
 unfolding judged
 judged-stored e slot words ring a =
-    either (λ (x : Translation). passes x ≡ true → Storing x) (not (somePermit e)) (λ h. absurd (no-both h))
-    (either (λ (x : Translation). passes x ≡ true → Storing x) (not (needed e Write)) (λ h. absurd (no-both h))
-    (either (λ (x : Translation). passes x ≡ true → Storing x) (not (ringAllows e ring)) (λ h. absurd (no-both h)) (within-stored words (physical e a))))
+    either (λ (x : Translation). passes x ≡ true → isStore x ≡ true) (not (somePermit e)) (λ h. absurd (no-both h))
+    (either (λ (x : Translation). passes x ≡ true → isStore x ≡ true) (not (needed e Write)) (λ h. absurd (no-both h))
+    (either (λ (x : Translation). passes x ≡ true → isStore x ≡ true) (not (ringAllows e ring)) (λ h. absurd (no-both h)) (within-stored words (physical e a))))
 
-write-stored : (t : List ℕ) (words : ℕ) (r : Rights) (b : Bool) (a : ℕ) → passes (translate t words r (access Write b a)) ≡ true → Storing (translate t words r (access Write b a))
+write-stored : (t : List ℕ) (words : ℕ) (r : Rights) (b : Bool) (a : ℕ) → passes (translate t words r (access Write b a)) ≡ true → isStore (translate t words r (access Write b a)) ≡ true
 unfolding translate
 write-stored t words r b a =
-    either (λ (x : Translation). passes x ≡ true → Storing x) (inWindow r a) (λ h. tt)
-    (either (λ (x : Translation). passes x ≡ true → Storing x) (r .paging)
+    either (λ (x : Translation). passes x ≡ true → isStore x ≡ true) (inWindow r a) (λ h. refl)
+    (either (λ (x : Translation). passes x ≡ true → isStore x ≡ true) (r .paging)
     (judged-stored (entryAt t (slotOf (tableOf r b) a)) (slotOf (tableOf r b) a) words (r .ring) a)
     (within-stored words a))
 

@@ -1,12 +1,13 @@
 -- What a block's places and words mean, as accesses and places of the isa's definitions.
 use Prim.Native.Nat.{ℕ}
+use mathlib.Core.Path.{_≡_}
 use mathlib.Core.Bool.{true}
 use mathlib.Core.List.{List, [], _∷_, _++_}
 use Rattle.isa.specs.Address.{access, sum}
 use Rattle.isa.specs.declared.access.Access.{Access}
 use Rattle.isa.specs.declared.access.Kind.{Kind}
 use Rattle.isa.specs.declared.access.Translation.{Translation}
-use Rattle.isa.specs.declared.access.Translation.the-variants.{NoAccess, Load, Store, LoadTable, StoreTable, Protection, PageFault, OutOfRange}
+use Rattle.paging.specs.Within.{isStore}
 use Rattle.blocks.specs.declared.block.Pair.{Pair}
 use Rattle.blocks.specs.declared.block.Half.{Half}
 use Rattle.blocks.specs.declared.block.Block.{Block}
@@ -32,16 +33,6 @@ abbrev pub listOf : BlockWords → List ℕ
 listOf w = w .p ∷ w .x ∷ w .t ∷ w .a ∷ w .d ∷ w .l ∷ w .sts ∷ w .b ∷ []
 
 -- places to store to
-abbrev pub Storing : Translation → Type 0
-Storing NoAccess = ⊥
-Storing (Load p) = ⊥
-Storing (Store p) = Unit {0}
-Storing (LoadTable i) = ⊥
-Storing (StoreTable i) = Unit {0}
-Storing (Protection g) = ⊥
-Storing (PageFault g) = ⊥
-Storing OutOfRange = ⊥
-
 abbrev pub AllStoring : List Translation → Type 0
 AllStoring [] = Unit {0}
-AllStoring (x ∷ xs) = Storing x × AllStoring xs
+AllStoring (x ∷ xs) = (isStore x ≡ true) × AllStoring xs

@@ -1,17 +1,19 @@
 // A block's words read from its places, and stored to them.
 ghost use mathlib.Core.Path.{_≡_};
+ghost use mathlib.Core.Bool.{true};
 ghost use mathlib.Core.List.{List, _∷_, _++_};
 ghost use Prim.Native.Nat.{ℕ};
 ghost use lib.ListN.{length};
 ghost use Rattle.isa.specs.Pages.{wordAt, wordsAt, storeAll, lent};
 ghost use Rattle.isa.specs.declared.access.Translation.{Translation as TranslationOf};
-ghost use Rattle.paging.specs.Within.{Within, AllWithin};
-ghost use Rattle.blocks.specs.Blocks.{blockPlaces, halfPlaces, pairPlaces, listOf, Storing, AllStoring};
+ghost use Rattle.paging.specs.Within.{Within, AllWithin, isStore};
+ghost use Rattle.blocks.specs.Blocks.{blockPlaces, halfPlaces, pairPlaces, listOf, AllStoring};
 use crate::block::Block;
 use crate::block::BlockWords;
 use crate::block::Half;
 use crate::block::Pair;
 use isa::access::Translation;
+use paging::place::store_at;
 use paging::place::word_at;
 
 // Two words, and those at a pair of places.
@@ -64,24 +66,11 @@ pub fn read_block(mem: &[u16], tables: &[u16], b: Block) -> BlockWords
 
 // A word is stored at a place to store to.
 fn store_word(mem: &mut [u16], tables: &mut [u16], x: Translation, w: u16)
-    requires { ⌜ Within (length (now mem)) x × Storing x ⌝ }
+    requires { ⌜ Within (length (now mem)) x × (isStore x ≡ true) ⌝ }
     requires { ⌜ length (now tables) ≡ 256 ⌝ }
     ensures { λ _. ⌜ ((xs : List TranslationOf) (ws : List ℕ) → storeAll (now (mem .exit)) (now (tables .exit)) xs ws ≡ storeAll (now (mem .entry)) (now (tables .entry)) (x ∷ xs) (w ∷ ws)) ⌝ }
 {
-    match x {
-        Translation::NoAccess => {}
-        Translation::Load(_) => {}
-        Translation::Store(p) => {
-            mem[p] = w;
-        }
-        Translation::LoadTable(_) => {}
-        Translation::StoreTable(i) => {
-            tables[i] = w;
-        }
-        Translation::Protection(_) => {}
-        Translation::PageFault(_) => {}
-        Translation::OutOfRange => {}
-    }
+    store_at(mem, tables, x, w);
 }
 
 // Words are stored at the places of a pair, and of a half.

@@ -1,5 +1,6 @@
 -- Places lie within a memory of so many words, or within the page tables.
 use Prim.Native.Nat.{ℕ, _<_}
+use mathlib.Core.Bool.{Bool, true, false}
 use mathlib.Core.List.{List, [], _∷_}
 use Rattle.isa.specs.declared.access.Translation.{Translation}
 use Rattle.isa.specs.declared.access.Translation.the-variants.{NoAccess, Load, Store, LoadTable, StoreTable, Protection, PageFault, OutOfRange}
@@ -13,6 +14,17 @@ Within words (StoreTable i) = i < 256
 Within words (Protection g) = Unit {0}
 Within words (PageFault g) = Unit {0}
 Within words OutOfRange = Unit {0}
+
+-- a place to store to
+abbrev pub isStore : Translation → Bool
+isStore NoAccess = false
+isStore (Load p) = false
+isStore (Store p) = true
+isStore (LoadTable i) = false
+isStore (StoreTable i) = true
+isStore (Protection g) = false
+isStore (PageFault g) = false
+isStore OutOfRange = false
 
 abbrev pub AllWithin : ℕ → List Translation → Type 0
 AllWithin words [] = Unit {0}

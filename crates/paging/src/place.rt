@@ -3,7 +3,7 @@ ghost use mathlib.Core.Path.{_≡_};
 ghost use mathlib.Core.List.{[], _∷_};
 ghost use lib.ListN.{length};
 ghost use Rattle.isa.specs.Pages.{faultOf, pgsAfter, wordAt, storeAll, lent};
-ghost use Rattle.paging.specs.Within.{Within};
+ghost use Rattle.paging.specs.Within.{Within, isStore};
 use isa::access::Translation;
 
 // The interrupt that an access gives, 0 where it passed.
@@ -75,5 +75,21 @@ pub fn store_at(mem: &mut [u16], tables: &mut [u16], x: Translation, w: u16)
         Translation::Protection(_) => {}
         Translation::PageFault(_) => {}
         Translation::OutOfRange => {}
+    }
+}
+
+// Whether a place is one to store to.
+pub fn is_store(x: Translation) -> bool
+    ensures { λ b. ⌜ b ≡ isStore x ⌝ }
+{
+    match x {
+        Translation::NoAccess => false,
+        Translation::Load(_) => false,
+        Translation::Store(_) => true,
+        Translation::LoadTable(_) => false,
+        Translation::StoreTable(_) => true,
+        Translation::Protection(_) => false,
+        Translation::PageFault(_) => false,
+        Translation::OutOfRange => false,
     }
 }

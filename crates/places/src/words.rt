@@ -9,6 +9,8 @@ ghost use Rattle.places.specs.Accesses.{placesOf, restOf};
 use crate::request::Places;
 use isa::access::Translation;
 use isa::access::Triple;
+use paging::place::is_store;
+use paging::place::store_at;
 use paging::place::word_at;
 
 // The words at the places, 0 beyond them.
@@ -57,22 +59,11 @@ fn stored(mem: &mut [u16], tables: &mut [u16], x: Translation, w: Triple) -> Tri
     requires { ⌜ length (now tables) ≡ 256 ⌝ }
     ensures { λ v. ⌜ ((xs : List TranslationOf) → storeAll (now (mem .exit)) (now (tables .exit)) xs (wordsOf v) ≡ storeAll (now (mem .entry)) (now (tables .entry)) (x ∷ xs) (wordsOf w)) ⌝ }
 {
-    match x {
-        Translation::NoAccess => w,
-        Translation::Load(_) => w,
-        Translation::Store(p) => {
-            mem[p] = w.a;
-            rest(w)
-        }
-        Translation::LoadTable(_) => w,
-        Translation::StoreTable(i) => {
-            tables[i] = w.a;
-            rest(w)
-        }
-        Translation::Protection(_) => w,
-        Translation::PageFault(_) => w,
-        Translation::OutOfRange => w,
+    store_at(mem, tables, x, w.a);
+    if is_store(x) {
+        return rest(w);
     }
+    w
 }
 
 // The same at two places.

@@ -55,9 +55,10 @@ fn interrupt_ends(first: bool, gave: u16) -> bool
 }
 
 // Why a run of no more steps ends.
-fn at_rest(first: bool, level: u16, k: Control) -> Reason
-    ensures { λ r. ⌜ r ≡ reasonAtRest first level k ⌝ }
+fn at_rest(first: bool, level: u16, c: Core) -> Reason
+    ensures { λ r. ⌜ r ≡ reasonAtRest first level (c .control) ⌝ }
 {
+    let k = c.control;
     if k.stopped == 1 {
         return Reason::Stopped;
     }
@@ -80,8 +81,7 @@ pub fn run_in(
     first: bool,
 ) -> Ran
     requires { ⌜ start < 16 ⌝ }
-    requires { ⌜ length (now regs) ≡ 128 ⌝ }
-    requires { ⌜ length (now pcrs) ≡ 16 ⌝ }
+    requires { ⌜ (length (now regs) ≡ 128) × (length (now pcrs) ≡ 16) ⌝ }
     requires { ⌜ length (now tables) ≡ 256 ⌝ }
     ensures { λ r. ⌜ r .level < 16 ⌝ }
     ensures { λ r. ⌜ runOf r (now (regs .exit)) (now (pcrs .exit)) (now (mem .exit)) (now (tables .exit)) ≡ runFrom first n 0 (pack start c (now (regs .entry)) (now (pcrs .entry))) (now (mem .entry)) (now (tables .entry)) ⌝ }
@@ -108,6 +108,5 @@ pub fn run_in(
             return ended(level, core, steps, gave, Reason::Interrupt);
         }
     }
-    let k = core.control;
-    ended(level, core, steps, gave, at_rest(first, level, k))
+    ended(level, core, steps, gave, at_rest(first, level, core))
 }

@@ -304,11 +304,16 @@ returns-40 c = row 20 736 _ _ _ (c .memory4 .ensures) refl (omega arith) (omega 
 
 returns-41 : tie.Need-returns-41
 unfolding decode
-returns-41 c = row 22 769 _ _ _ refl refl (past _ 768 1 _ (c .before .if8 .left) (known _ 772 28 _ (known _ 832 5 _ (c .before .before .before .before .before .before .before .before .before .match .rest)))) (omega arith)
+returns-41 c =
+    let at-match = c .before .before .before .before .before .before .before .before .before in
+    row 22 769 _ _ _ refl refl (past _ 768 1 _ (c .before .if8 .left) (known _ 772 28 _ (known _ 832 5 _ (at-match .match .rest)))) (omega arith)
 
 returns-42 : tie.Need-returns-42
 unfolding decode
-returns-42 c = row 51 800 _ _ _ (c .logic .ensures) refl (past _ 772 28 _ (c .before .if9 .left) (known _ 832 5 _ (c .before .before .before .before .before .before .before .before .before .before .match .rest))) (omega arith)
+returns-42 c =
+    let then = c .before .before .before .before .before .before .before .before .before in
+    let at-match = then .before in
+    row 51 800 _ _ _ (c .logic .ensures) refl (past _ 772 28 _ (c .before .if9 .left) (known _ 832 5 _ (at-match .match .rest))) (omega arith)
 
 returns-43 : tie.Need-returns-43
 unfolding decode

@@ -27,7 +27,7 @@ run-in-requires c κs =
     let s = k .args .s in
     let regs : length (s .regs) ≡ 128 = sym (length-map (s .regs) _) ∙ k .good .0 .1 .1 .0 .1 .0 .1 in
     let pcrs : length (s .pcr) ≡ 16 = sym (length-map (s .pcr) _) ∙ k .good .0 .1 .1 .1 .1 .1 .0 .1 .0 .1 in
-    (k .pre .0, (regs, (pcrs, k .pre .1)))
+    (k .pre .0, ((regs, pcrs), k .pre .1))
 
 closed-requires : tie.Need-closed-requires
 closed-requires c κs = search needs

@@ -1,110 +1,25 @@
--- A place to store to takes the word; no other place is given.
+-- A place to store to takes the word.
 -- Assumes nothing.
-use Prim.Native.Nat.{_<_}
-use native.Mathlib.Omega.{arith}
-use mathlib.Core.Path.{subst}
-use lib.ListN.{length}
+use Rattle.paging.proofs.Stores.{store-first}
 use borrow.Author.Needs.{needs}
-use Rattle.paging.specs.Within.{Within}
-use Rattle.blocks.specs.Blocks.{Storing}
 use Rattle.blocks.proofs.words.store_word.Statement.{statement}
 use Rattle.blocks.proofs.words.store_word.Tie as tie
 
-enum-told : tie.Need-enum-told
-enum-told c = search needs
-
-enum-told-2 : tie.Need-enum-told-2
-enum-told-2 c = search needs
-
-enum-known-x : tie.Need-enum-known-x
-enum-known-x c = search needs
-
-mul-mem : tie.Need-mul-mem
-mul-mem c =
-    let h : c .before .x .given .0 .0 < length (c .before .before .before .args .mem .now) = subst (Within (length (c .before .before .before .args .mem .now))) (c .before .x .given .1) (c .before .before .before .pre .0 .0) in
-    omega arith
-
-slice-write-mem : tie.Need-slice-write-mem
-slice-write-mem c = subst (Within (length (c .before .before .before .args .mem .now))) (c .before .x .given .1) (c .before .before .before .pre .0 .0)
-
-enum-told-3 : tie.Need-enum-told-3
-enum-told-3 c = search needs
-
-enum-known-x-2 : tie.Need-enum-known-x-2
-enum-known-x-2 c = search needs
-
-mul-tables : tie.Need-mul-tables
-mul-tables c =
-    let h : c .before .x2 .given .0 .0 < 256 = subst (Within (length (c .before .before .before .args .mem .now))) (c .before .x2 .given .1) (c .before .before .before .pre .0 .0) in
-    omega arith
-
-slice-write-tables : tie.Need-slice-write-tables
-slice-write-tables c =
-    let h : c .before .x2 .given .0 .0 < 256 = subst (Within (length (c .before .before .before .args .mem .now))) (c .before .x2 .given .1) (c .before .before .before .pre .0 .0) in
-    omega arith
-
-enum-told-4 : tie.Need-enum-told-4
-enum-told-4 c = search needs
-
-enum-told-5 : tie.Need-enum-told-5
-enum-told-5 c = search needs
-
-enum-told-6 : tie.Need-enum-told-6
-enum-told-6 c = search needs
-
-returns : tie.Need-returns
-returns c = absurd (subst Storing (c .enum-told .given .1) (c .before .before .pre .0 .1))
-
-returns-2 : tie.Need-returns-2
-returns-2 c = absurd (subst Storing (c .enum-told2 .given .1) (c .before .before .pre .0 .1))
+store-at-requires : tie.Need-store-at-requires
+store-at-requires c κs = search needs
 
 same-length : tie.Need-same-length
 same-length c = search needs
 
-returns-3 : tie.Need-returns-3
-returns-3 c = λ xs ws. simp (c .before .x .given .1)
-
-returns-4 : tie.Need-returns-4
-returns-4 c = absurd (subst Storing (c .enum-told3 .given .1) (c .before .before .pre .0 .1))
-
 same-length-2 : tie.Need-same-length-2
 same-length-2 c = search needs
 
-returns-5 : tie.Need-returns-5
-returns-5 c = λ xs ws. simp (c .before .x2 .given .1)
-
-returns-6 : tie.Need-returns-6
-returns-6 c = absurd (subst Storing (c .enum-told4 .given .1) (c .before .before .pre .0 .1))
-
-returns-7 : tie.Need-returns-7
-returns-7 c = absurd (subst Storing (c .enum-told5 .given .1) (c .before .before .pre .0 .1))
-
-returns-8 : tie.Need-returns-8
-returns-8 c = absurd (subst Storing (c .enum-told6 .given .1) (c .before .before .pre .0 .1))
+returns : tie.Need-returns
+returns c =
+    let storing = c .before .before .before .before in
+    let start = storing .before .before .before .before .before in
+    let a = start .args in
+    store-first (a .mem .now) (a .tables .now) (storing .store-at .last .0) (storing .store-at .last .1 .0) (a .w) (a .x) (storing .store-at .ensures) (start .pre .0 .1)
 
 pub store-word-spec : {M : Type 1} → statement M
-store-word-spec =
-    tie.close
-    (tie.spec
-    enum-told
-    enum-told-2
-    enum-known-x
-    mul-mem
-    slice-write-mem
-    enum-told-3
-    enum-known-x-2
-    mul-tables
-    slice-write-tables
-    enum-told-4
-    enum-told-5
-    enum-told-6
-    returns
-    returns-2
-    same-length
-    returns-3
-    returns-4
-    same-length-2
-    returns-5
-    returns-6
-    returns-7
-    returns-8)
+store-word-spec = tie.close (tie.spec store-at-requires same-length same-length-2 returns)

@@ -31,17 +31,23 @@ put-block-requires c κs = search needs
 
 reloaded-requires : tie.Need-reloaded-requires
 reloaded-requires c κs =
+    let at-put-file = c .before .before .before .before .before .before .before .before .before in
     let h = c .before .before .before .before .before .before .before .before .before .before .before .before .before .before .before .before .before .before .before .before .before .pre in
-    (h .0, c .before .before .before .put-block .kept .1 .0 ∙ c .before .before .before .before .before .before .before .before .before .put-file .kept .0 ∙ h .1 .0)
+    (h .0, c .before .before .before .put-block .kept .1 .0 ∙ at-put-file .put-file .kept .0 ∙ h .1 .0)
 
 same-length : tie.Need-same-length
 same-length c = search needs
 
 same-length-2 : tie.Need-same-length-2
-same-length-2 c = c .before .before .before .before .before .before .before .before .before .before .before .before .before .before .before .before .before .tested .kept .1 .1 .0
+same-length-2 c =
+    let then = c .before .before .before .before .before .before .before .before .before in
+    let at-tested = then .before .before .before .before .before .before .before .before in
+    at-tested .tested .kept .1 .1 .0
 
 returns : tie.Need-returns
 returns c =
+    let then = c .before .before .before .before .before .before .before .before .before in
+    let at-put-file = then .before in
     let i = c .before .before .before .before .before .before .before .before .before .before .before .before .before in
     let x = i .before .before .before .before .tested in
     let k = i .before .before .before .before .before .before .before .before .before in
@@ -49,7 +55,7 @@ returns c =
     let h = k .pre in
     let g = passes-zero (x .result .fault) (i .before .fault-of .ensures) (i .if1 .taken) in
     λ p q. block-from-memory (a .level) (a .c) (a .regs .now) p (h .0) (h .1 .0) q (eight k) Read (a .mem .now) (a .tables .now) (x .ensures) g (a .l)
-    (c .before .before .before .before .before .before .before .before .before .before .put-file .ensures)
+    (at-put-file .put-file .ensures)
     (c .before .before .before .before .before .read-block .ensures)
     (c .reloaded .ensures (a .regs .now) p ∙ c .before .before .before .before .put-block .ensures (pack (a .level) (a .c) (a .regs .now) p) refl)
 

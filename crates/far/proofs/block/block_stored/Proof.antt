@@ -53,6 +53,8 @@ same-length-3 c = search needs
 
 returns : tie.Need-returns
 returns c =
+    let then = c .before .before .before .before .before .before .before .before .before in
+    let at-put-file = then .before .before in
     let i = c .before .before .before .before .before .before .before .before .before .before .before .before .before .before in
     let x = i .before .before .before .before .tested in
     let k = i .before .before .before .before .before .before .before .before .before in
@@ -60,7 +62,7 @@ returns c =
     let h = k .pre in
     let g = passes-zero (x .result .fault) (i .before .fault-of .ensures) (i .if1 .taken) in
     λ p q. block-to-memory (a .level) (a .c) (a .regs .now) p (h .0) (h .1 .0) q (eight k) Write (a .mem .now) (a .tables .now) (x .ensures) g (a .l)
-    (c .before .before .before .before .before .before .before .before .before .before .before .put-file .ensures)
+    (at-put-file .put-file .ensures)
     (c .before .before .before .before .before .block-words .ensures (pack (a .level) (a .c) (a .regs .now) p))
     (c .before .before .before .before .store-block .ensures)
 

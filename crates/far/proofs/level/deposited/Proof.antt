@@ -29,7 +29,10 @@ get-requires : tie.Need-get-requires
 get-requires c κs = search needs
 
 store-at-requires : tie.Need-store-at-requires
-store-at-requires c κs = (place-within _ Write _ (place (c .before .before .before .before .before .before)), c .before .before .before .before .before .before .before .before .before .before .pre)
+store-at-requires c κs =
+    let then = c .before .before .before .before .before .before .before .before .before in
+    let start = then .before in
+    (place-within _ Write _ (place (c .before .before .before .before .before .before)), start .pre)
 
 left-requires : tie.Need-left-requires
 left-requires c κs = search needs

@@ -28,7 +28,8 @@ same-length c = search needs
 
 returns : tie.Need-returns
 returns c =
-    λ p. c .reloaded .ensures (c .before .before .before .before .before .before .before .before .before .args .regs .now) p
+    let start = c .before .before .before .before .before .before .before .before .before in
+    λ p. c .reloaded .ensures (start .args .regs .now) p
     ∙ simp (c .before .before .place .ensures .0, c .before .before .before .before .before .put-file .ensures)
 
 pub called-spec : {M : Type 1} → statement M

@@ -34,12 +34,13 @@ same-length c = search needs
 
 returns : tie.Need-returns
 returns c =
+    let at-put-file = c .before .before .before .before .before .before .before .before .before in
     let k = c .before .before .before .before .before .before .before .before .before .before .before .before .before in
     let a = k .args in
     let h = k .pre in
     let s : List ℕ → State = pack (a .level) (a .c) (a .regs .now) in
     λ p. c .reloaded .ensures (a .regs .now) p
-    ∙ also-put (s p) (a .l) (a .r) _ refl (c .before .before .before .before .put-other .ensures) (ap (withRegs (s p)) (c .before .before .before .before .before .before .before .before .before .put-file .ensures))
+    ∙ also-put (s p) (a .l) (a .r) _ refl (c .before .before .before .before .put-other .ensures) (ap (withRegs (s p)) (at-put-file .put-file .ensures))
     ∙ ap (putOther (s p) (a .l) (a .r)) (c .before .before .before .before .before .get .ensures ∙ sym (own-register (a .level) (a .c) (a .regs .now) p (h .0) (h .1) (eight k) A))
 
 pub register-written-spec : {M : Type 1} → statement M

@@ -141,8 +141,10 @@ same-length-8 c = search needs
 returns-7 : tie.Need-returns-7
 unfolding farStage
 returns-7 c =
+    let then = c .before .before .before .before .before .before .before .before .before in
+    let at-far = then .before .before in
     let k = c .before .before .before .before .before .before .before .before .before .before .before .before .before .before .before .before .before .before in
-    simp (c .before .before .before .before .before .before .before .before .before .before .before .far4 .given .1) (c .before .before .before .before .before .before .block-stored .ensures (k .args .pcrs .now) (k .pre .1 .1 .0))
+    simp (at-far .far4 .given .1) (c .before .before .before .before .before .before .block-stored .ensures (k .args .pcrs .now) (k .pre .1 .1 .0))
 
 same-length-9 : tie.Need-same-length-9
 same-length-9 c = search needs
@@ -156,8 +158,9 @@ same-length-11 c = search needs
 returns-8 : tie.Need-returns-8
 unfolding farStage
 returns-8 c =
+    let at-far = c .before .before .before .before .before .before .before .before .before in
     let k = c .before .before .before .before .before .before .before .before .before .before .before .before .before .before .before .before in
-    simp (c .before .before .before .before .before .before .before .before .before .far5 .given .1) (c .before .before .before .before .block-loaded .ensures (k .args .pcrs .now) (k .pre .1 .1 .0))
+    simp (at-far .far5 .given .1) (c .before .before .before .before .block-loaded .ensures (k .args .pcrs .now) (k .pre .1 .1 .0))
 
 pub settle-spec : {M : Type 1} → statement M
 settle-spec =

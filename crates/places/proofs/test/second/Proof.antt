@@ -28,10 +28,11 @@ returns c =
 
 third-requires : tie.Need-third-requires
 third-requires c κs =
+    let start = c .before .before .before .before .before .before .before .before .before in
     let a = c .before .before .before .before .before .before .before .before .before .args in
     let y = c .before .before .before .before .before .before .translate in
     let f : Found (a .tables .now) (a .words) (a .r) (access (a .k) (a .alternate) (a .b)) (y .result) (c .before .before .before .fault-of .result) (y .last .0) = record { place = y .ensures .0; marks = y .ensures .1; fault = c .before .before .before .fault-of .ensures } in
-    (c .before .before .before .before .before .before .before .before .before .pre .0, (y .kept .0 ∙ c .before .before .before .before .before .before .before .before .before .pre .1 .0, (c .before .before .before .before .before .before .before .before .before .pre .1 .1, found-within f)))
+    (start .pre .0, (y .kept .0 ∙ start .pre .1 .0, (start .pre .1 .1, found-within f)))
 
 same-length-2 : tie.Need-same-length-2
 same-length-2 c = search needs

@@ -38,10 +38,12 @@ wrapping-add-u16-requires c κs = search needs
 
 second-requires : tie.Need-second-requires
 second-requires c κs =
+    let then = c .before .before .before .before .before .before .before .before .before in
+    let start = then .before in
     let a = c .before .before .before .before .before .before .before .before .before .before .args in
     let x = c .before .before .before .before .before .before .before .translate in
     let f : Found (a .tables .now) (a .words) (a .r) (access (a .k) (a .alternate) (a .a)) (x .result) (c .before .before .before .before .fault-of .result) (x .last .0) = record { place = x .ensures .0; marks = x .ensures .1; fault = c .before .before .before .before .fault-of .ensures } in
-    (c .before .before .before .before .before .before .before .before .before .before .pre .0, (x .kept .0 ∙ c .before .before .before .before .before .before .before .before .before .before .pre .1, found-within f))
+    (start .pre .0, (x .kept .0 ∙ start .pre .1, found-within f))
 
 same-length-2 : tie.Need-same-length-2
 same-length-2 c = search needs

@@ -37,8 +37,11 @@ store-two-requires-2 c κs =
 
 stored-requires-2 : tie.Need-stored-requires-2
 stored-requires-2 c κs =
-    let h = subst (λ (q : Places). AllWithin (length (c .before .before .before .before .before .before .before .before .before .before .before .before .before .before .args .mem .now)) (placesOf q)) (c .before .before .before .before .before .before .before .before .before .before .p3 .given .1) (c .before .before .before .before .before .before .before .before .before .before .before .before .before .before .pre .0) in
-    (rw (c .before .before .before .before .before .before .store-two2 .kept .0) (h .1 .1 .0), c .before .before .before .before .before .before .store-two2 .kept .1 .0 ∙ c .before .before .before .before .before .before .before .before .before .before .before .before .before .before .pre .1)
+    let then = c .before .before .before .before .before .before .before .before .before in
+    let at-p = then .before in
+    let start = at-p .before .before .before .before in
+    let h = subst (λ (q : Places). AllWithin (length (start .args .mem .now)) (placesOf q)) (at-p .p3 .given .1) (start .pre .0) in
+    (rw (c .before .before .before .before .before .before .store-two2 .kept .0) (h .1 .1 .0), c .before .before .before .before .before .before .store-two2 .kept .1 .0 ∙ start .pre .1)
 
 enum-told-2 : tie.Need-enum-told-2
 enum-told-2 c = search needs
@@ -71,7 +74,11 @@ same-length-6 : tie.Need-same-length-6
 same-length-6 c = search needs
 
 returns-4 : tie.Need-returns-4
-returns-4 c = simp (c .before .before .before .before .before .before .before .before .before .before .before .before .before .before .before .p3 .given .1) (c .before .before .before .before .stored2 .ensures [] ∙ c .before .before .before .before .before .before .before .before .before .before .before .store-two2 .ensures (c .before .before .before .before .before .before .before .before .before .before .before .before .before .before .before .p3 .given .0 .1 .1 .0 ∷ []))
+returns-4 c =
+    let then = c .before .before .before .before .before .before .before .before .before in
+    let at-store-two = then .before .before in
+    let at-p = at-store-two .before .before .before .before in
+    simp (at-p .p3 .given .1) (c .before .before .before .before .stored2 .ensures [] ∙ at-store-two .store-two2 .ensures (at-p .p3 .given .0 .1 .1 .0 ∷ []))
 
 returns-5 : tie.Need-returns-5
 returns-5 c = simp (c .enum-told2 .given .1)

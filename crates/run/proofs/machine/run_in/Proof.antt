@@ -90,7 +90,7 @@ advance-requires c κs =
     let k = tested .before .before .before .before .before .before in
     let same = l .inv .1 .1 in
     let more : 0 < k .args .n - l .steps = omega (arith, tested .loop-test .taken) in
-    (l .inv .1 .0, (same .0 ∙ k .pre .1 .0, (same .1 .0 ∙ k .pre .1 .1 .0, (same .1 .1 .1 ∙ k .pre .1 .1 .1, (more, ne-eqb _ _ (c .before .before .before .before .before .before .if1 .left))))))
+    (l .inv .1 .0, (same .0 ∙ k .pre .1 .0 .0, (same .1 .0 ∙ k .pre .1 .0 .1, (same .1 .1 .1 ∙ k .pre .1 .1, (more, ne-eqb _ _ (c .before .before .before .before .before .before .if1 .left))))))
 
 add-steps : tie.Need-add-steps Inv-loop μ-loop
 add-steps c =
@@ -194,7 +194,7 @@ same-length-16 c = search needs
 
 returns-4 : tie.Need-returns-4 Inv-loop μ-loop
 returns-4 c =
-    let tested = c .before .before .before in
+    let tested = c .before .before in
     let l = tested .before .loop in
     let a = tested .before .before .before .before .before .before .args in
     subst (Answered (a .n) (a .first) (pack (a .start) (a .c) (a .regs .now) (a .pcrs .now)) (a .mem .now) (a .tables .now) (l .regs) (l .pcrs) (l .mem) (l .tables)) (sym (c .ended4 .ensures ∙ ap (λ (w : Reason). record { level = l .level; core = l .core; steps = l .steps; gave = l .gave; reason = w }) (c .before .at-rest .ensures)))

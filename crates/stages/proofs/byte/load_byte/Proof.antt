@@ -24,8 +24,10 @@ fault-of-requires c κs = search needs
 
 word-at-requires : tie.Need-word-at-requires
 word-at-requires c κs =
+    let then = c .before .before .before .before .before .before .before .before .before in
+    let start = then .before in
     let x = c .before .before .before .before .before .translate in
-    (found-within (found (x .ensures) (c .before .before .fault-of .ensures)), x .kept .0 ∙ c .before .before .before .before .before .before .before .before .before .before .pre .1)
+    (found-within (found (x .ensures) (c .before .before .fault-of .ensures)), x .kept .0 ∙ start .pre .1)
 
 byte-loaded-requires : tie.Need-byte-loaded-requires
 byte-loaded-requires c κs = search needs

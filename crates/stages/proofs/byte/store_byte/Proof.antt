@@ -33,8 +33,10 @@ stored-byte-requires c κs = search needs
 
 store-all-requires : tie.Need-store-all-requires
 store-all-requires c κs =
+    let then = c .before .before .before .before .before .before .before .before .before in
+    let start = then .before .before .before .before .before .before .before in
     let p = c .before .before .before .before .before .before .before .before .before .before .before .test-all in
-    (p .ensures .within, p .kept .0 ∙ c .before .before .before .before .before .before .before .before .before .before .before .before .before .before .before .before .pre .1)
+    (p .ensures .within, p .kept .0 ∙ start .pre .1)
 
 none-requires : tie.Need-none-requires
 none-requires c κs = search needs
@@ -47,7 +49,9 @@ same-length c = search needs
 
 same-length-2 : tie.Need-same-length-2
 same-length-2 c =
-    c .before .before .before .before .before .before .store-all .kept .1 .0 ∙ c .before .before .before .before .before .before .before .before .before .before .before .before .before .before .before .before .before .before .test-all .kept .0
+    let then = c .before .before .before .before .before .before .before .before .before in
+    let at-test-all = then .before .before .before .before .before .before .before .before .before in
+    c .before .before .before .before .before .before .store-all .kept .1 .0 ∙ at-test-all .test-all .kept .0
 
 returns : tie.Need-returns
 returns c =

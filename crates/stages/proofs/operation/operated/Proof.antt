@@ -112,8 +112,9 @@ same-length-10 c = search needs
 
 returns-6 : tie.Need-returns-6
 returns-6 c =
+    let at-request-of = c .before .before .before .before .before .before .before .before .before in
     let a = c .before .before .before .before .before .before .before .before .before .before .before .before .args in
-    let h = subst (Tells (a .o)) (sym (c .before .before .before .before .before .before .before .before .before .request-of .ensures) ∙ c .before .before .before .before .before .before .before .enum-told4 .given .1) (request-tells (a .o)) in
+    let h = subst (Tells (a .o)) (sym (at-request-of .request-of .ensures) ∙ c .before .before .before .before .before .before .before .enum-told4 .given .1) (request-tells (a .o)) in
     rw h (c .before .before .before .before .increment .ensures)
 
 pub operated-spec : {M : Type 1} → statement M

@@ -40,7 +40,9 @@ same-length c = search needs
 
 same-length-2 : tie.Need-same-length-2
 same-length-2 c =
-    c .before .before .before .before .before .before .store-all .kept .1 .0 ∙ c .before .before .before .before .before .before .before .before .before .before .before .before .before .before .before .test-all .kept .0
+    let then = c .before .before .before .before .before .before .before .before .before in
+    let at-test-all = then .before .before .before .before .before .before in
+    c .before .before .before .before .before .before .store-all .kept .1 .0 ∙ at-test-all .test-all .kept .0
 
 returns : tie.Need-returns
 returns c =

@@ -21,8 +21,9 @@ fault-of-requires c κs = search needs
 
 word-at-requires : tie.Need-word-at-requires
 word-at-requires c κs =
+    let start = c .before .before .before .before .before .before .before .before .before in
     let x = c .before .before .before .before .before .translate in
-    (found-within (found (x .ensures) (c .before .before .fault-of .ensures)), x .kept .0 ∙ c .before .before .before .before .before .before .before .before .before .pre .1 .0)
+    (found-within (found (x .ensures) (c .before .before .fault-of .ensures)), x .kept .0 ∙ start .pre .1 .0)
 
 loaded-requires : tie.Need-loaded-requires
 loaded-requires c κs = search needs

@@ -25,8 +25,10 @@ stored-requires c κs = search needs
 
 store-at-requires : tie.Need-store-at-requires
 store-at-requires c κs =
+    let then = c .before .before .before .before .before .before .before .before .before in
+    let start = then .before .before in
     let x = c .before .before .before .before .before .before .before .translate in
-    (found-within (found (x .ensures) (c .before .before .before .before .fault-of .ensures)), x .kept .0 ∙ c .before .before .before .before .before .before .before .before .before .before .before .pre .1 .0)
+    (found-within (found (x .ensures) (c .before .before .before .before .fault-of .ensures)), x .kept .0 ∙ start .pre .1 .0)
 
 none-requires : tie.Need-none-requires
 none-requires c κs = search needs

@@ -1,0 +1,69 @@
+-- Words put whole, and what a call leaves by its number.
+-- Assumes nothing.
+use Prim.Native.Nat.{ℕ, _+_, _≤_}
+use mathlib.Core.Path.{_≡_, refl, sym, ap, _∙_}
+use mathlib.Core.Bool.{Bool, cond}
+use mathlib.Core.List.{List, _++_, append-nil}
+use native.Mathlib.Omega.{arith}
+use native.Mathlib.Nat.{le-of-eq, zero-add}
+use lib.ListN.{length, take, drop, length-take, length-drop, drop-of-length-le}
+use lib.Seq.{paste, take-all}
+use lib.Dec.{eqb}
+use borrow.Author.Tests.{eq-eqb, ne-eqb}
+use Rattle.isa.specs.Answers.{viewAnswer, viewedBy, viewed, targetOf}
+use Rattle.isa.specs.declared.machine.State.{State}
+use Rattle.isa.specs.declared.answer.Target.{Target}
+use Rattle.isa.specs.declared.answer.Answer.{Answer}
+use Rattle.isa.specs.declared.answer.Answer.the-variants.{Done, Refused}
+use Rattle.host.specs.Calls.{Left, leftOf, ended, called, wordsOf, badCall}
+
+-- ---- words put whole
+
+-- in front of others
+pub put-front : (d w : List ℕ) (n : ℕ) → length w ≡ n → paste d 0 w n ≡ w ++ drop n d
+put-front d w n h = (λ i. take-all n w (le-of-eq h) i ++ drop (zero-add n i) d)
+
+-- over as many
+pub put-all : (d w : List ℕ) (n : ℕ) → length d ≡ n → length w ≡ n → paste d 0 w n ≡ w
+put-all d w n hd hw =
+    put-front d w n hw ∙ ap (λ (x : List ℕ). w ++ x) (drop-of-length-le d {i = n} (le-of-eq hd)) ∙ append-nil w
+
+-- the last n words
+pub rest-all : (a n : ℕ) (w : List ℕ) → length w ≡ a + n → take n (drop a w) ≡ drop a w
+rest-all a n w h = take-all n (drop a w) (simp length-drop (omega arith))
+
+-- a view is no longer than asked
+pub viewed-most : (k : Target) (a n : ℕ) (m t : List ℕ) → length (viewed k a n m t) ≤ n
+unfolding viewed
+viewed-most k a n m t = go (viewAnswer k a n m t)
+  where
+    go : (x : Answer) → length (viewedBy x (targetOf k m t) a n) ≤ n
+    go Done = rw (length-take n (drop a (targetOf k m t))) (omega arith)
+    go (Refused r) = omega arith
+
+-- ---- what a call leaves
+
+-- an operation that was refused, and one that was done, by the number k that the code has as n
+module _ (n k : ℕ) (s : State) (m t x w y : List ℕ) (e : n ≡ k) where
+  pub ended-refused : (n ≡ 0 → ⊥) → leftOf n w m t y ≡ ended k s m t x w y
+  unfolding ended
+  ended-refused h =
+      (λ i. leftOf n (cond (sym (ne-eqb n 0 h) i) (wordsOf s) w) m t (cond (sym (ne-eqb n 0 h) i) x y))
+      ∙ ap (λ (j : ℕ). ended j s m t x w y) e
+
+  pub ended-done : (v z : List ℕ) → n ≡ 0 → v ≡ wordsOf s → z ≡ x → leftOf 0 v m t z ≡ ended k s m t x w y
+  unfolding ended
+  ended-done v z h hv hz =
+      (λ i. leftOf (sym h i) (hv i) m t (hz i))
+      ∙ (λ i. leftOf n (cond (sym (eq-eqb n 0 h) i) (wordsOf s) w) m t (cond (sym (eq-eqb n 0 h) i) x y))
+      ∙ ap (λ (j : ℕ). ended j s m t x w y) e
+
+-- words that are a state, and others
+module _ (w m t y : List ℕ) (l : Left) where
+  pub called-well : length w ≡ 154 → l ≡ called w m t y l
+  unfolding called
+  called-well h = ap (λ (b : Bool). cond b l (leftOf badCall w m t y)) (sym (eq-eqb (length w) 154 h))
+
+  pub called-badly : (length w ≡ 154 → ⊥) → leftOf badCall w m t y ≡ called w m t y l
+  unfolding called
+  called-badly h = ap (λ (b : Bool). cond b l (leftOf badCall w m t y)) (sym (ne-eqb (length w) 154 h))

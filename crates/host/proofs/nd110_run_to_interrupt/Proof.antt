@@ -1,0 +1,59 @@
+-- A run of the words' state, or a refusal.
+-- Assumes nothing.
+use Prim.Native.Nat.{ℕ}
+use mathlib.Core.Path.{_≡_, ap, _∙_}
+use mathlib.Core.Bool.{true}
+use mathlib.Core.List.{List, [], _∷_}
+use Rattle.isa.specs.Answers.{runCall}
+use Rattle.isa.specs.declared.machine.State.{State}
+use Rattle.host.specs.Calls.{runEnd}
+use Rattle.host.proofs.Laws.{called-well, called-badly}
+use borrow.Author.Needs.{needs}
+use Rattle.host.proofs.nd110_run_to_interrupt.Statement.{statement}
+use Rattle.host.proofs.nd110_run_to_interrupt.Tie as tie
+
+returns : tie.Need-returns
+returns c = called-badly _ _ _ _ _ (c .if1 .taken)
+
+state-in-requires : tie.Need-state-in-requires
+state-in-requires c κs = search needs
+
+to-interrupt-requires : tie.Need-to-interrupt-requires
+to-interrupt-requires c κs = search needs
+
+tell-requires : tie.Need-tell-requires
+tell-requires c κs = search needs
+
+same-length : tie.Need-same-length
+same-length c = search needs
+
+same-length-2 : tie.Need-same-length-2
+same-length-2 c = search needs
+
+same-length-3 : tie.Need-same-length-3
+same-length-3 c = search needs
+
+returns-2 : tie.Need-returns-2
+returns-2 c =
+    let ran = c .before .before .before .before .before .before .before .before .before .before in
+    let entered = ran .before .before .before in
+    let a = entered .before .before .before .before .before .before .args in
+    let w : List ℕ = a .state .now in
+    let y : List ℕ = a .steps .now ∷ a .reason .now ∷ [] in
+    let same = ran .to-interrupt .ensures ∙ ap (λ (s : State). runCall true (a .n) s (a .mem .now) (a .tables .now)) (entered .state-in .ensures) in
+    c .before .before .tell .ensures _ _
+    ∙ ap (runEnd w y) same
+    ∙ called-well w _ _ y _ (entered .before .before .if1 .left)
+
+pub nd110-run-to-interrupt-spec : {M : Type 1} → statement M
+nd110-run-to-interrupt-spec =
+    tie.close
+    (tie.spec
+    returns
+    state-in-requires
+    to-interrupt-requires
+    tell-requires
+    same-length
+    same-length-2
+    same-length-3
+    returns-2)

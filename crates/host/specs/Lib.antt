@@ -1,0 +1,2 @@
+-- The host's calls.
+pub mod Calls

@@ -1,0 +1,224 @@
+// The operations for a host in C or Rust: numbers and lent words alone, nothing required of the caller. Each function answers 0,
+// document 01's number of a refusal, or 11 for a call that is no operation; only 0 changes lent words. include/nd110.h declares them.
+ghost use mathlib.Core.Path.{_≡_};
+ghost use mathlib.Core.Bool.{true, false};
+ghost use mathlib.Core.List.{_∷_, []};
+ghost use lib.ListN.{length};
+ghost use Rattle.host.specs.Calls.{Left, leftOf, hostStep, hostRun, runEnd, hostRaise, hostLoad, hostWrite, hostWritten, knownTarget, targetNamed, hostViewAnswer, hostView, hostViewed};
+ghost use Rattle.nd110.specs.Calls.{runOf};
+use crate::numbers::answer_number;
+use crate::numbers::interrupt_given;
+use crate::numbers::reason_given;
+use crate::numbers::run_number;
+use crate::numbers::step_number;
+use crate::numbers::steps_taken;
+use crate::words::put;
+use crate::words::put_state;
+use crate::words::state_in;
+use isa::answer::Target;
+use nd110::raise::raise;
+use nd110::runs::Ran;
+use nd110::runs::through;
+use nd110::runs::to_interrupt;
+use nd110::step::step;
+
+mod numbers;
+mod words;
+
+// The number of a call that is no operation.
+const BAD_CALL: u16 = 11;
+
+// One step. `interrupt` gets the interrupt's number, 0 if none.
+#[no_mangle]
+pub extern "C" fn nd110_step(
+    state: &mut [u16],
+    mem: &mut [u16],
+    tables: &mut [u16],
+    interrupt: &mut u16,
+) -> u16
+    ensures { λ r. ⌜ leftOf r (now (state .exit)) (now (mem .exit)) (now (tables .exit)) (now (interrupt .exit) ∷ []) ≡ hostStep (now (state .entry)) (now (mem .entry)) (now (tables .entry)) (now (interrupt .entry) ∷ []) ⌝ }
+{
+    if state.len() != 154 {
+        return BAD_CALL;
+    }
+    let r = step(state_in(state), mem, tables);
+    let a = r.answer;
+    let n = step_number(a);
+    if n != 0 {
+        return n;
+    }
+    let after = r.state;
+    put_state(after, state);
+    *interrupt = interrupt_given(a);
+    0
+}
+
+// What a run answered, to the lent words.
+fn tell(r: Ran, state: &mut [u16], steps: &mut u64, reason: &mut u16) -> u16
+    requires { ⌜ length (now state) ≡ 154 ⌝ }
+    ensures { λ n. ⌜ ((m t : _) → leftOf n (now (state .exit)) m t (now (steps .exit) ∷ now (reason .exit) ∷ []) ≡ runEnd (now (state .entry)) (now (steps .entry) ∷ now (reason .entry) ∷ []) (runOf r m t)) ⌝ }
+{
+    let a = r.answer;
+    let n = run_number(a);
+    if n != 0 {
+        return n;
+    }
+    let after = r.state;
+    put_state(after, state);
+    *steps = steps_taken(a);
+    *reason = reason_given(a);
+    0
+}
+
+// At most n steps, interrupts and changes of level included. `steps` gets the steps taken, `reason` the reason's number.
+#[no_mangle]
+pub extern "C" fn nd110_run(
+    state: &mut [u16],
+    mem: &mut [u16],
+    tables: &mut [u16],
+    n: u64,
+    steps: &mut u64,
+    reason: &mut u16,
+) -> u16
+    ensures { λ r. ⌜ leftOf r (now (state .exit)) (now (mem .exit)) (now (tables .exit)) (now (steps .exit) ∷ now (reason .exit) ∷ []) ≡ hostRun false n (now (state .entry)) (now (mem .entry)) (now (tables .entry)) (now (steps .entry) ∷ now (reason .entry) ∷ []) ⌝ }
+{
+    if state.len() != 154 {
+        return BAD_CALL;
+    }
+    let r = through(state_in(state), mem, tables, n);
+    tell(r, state, steps, reason)
+}
+
+// At most n steps, up to the first that gives an interrupt, or before a change of level.
+#[no_mangle]
+pub extern "C" fn nd110_run_to_interrupt(
+    state: &mut [u16],
+    mem: &mut [u16],
+    tables: &mut [u16],
+    n: u64,
+    steps: &mut u64,
+    reason: &mut u16,
+) -> u16
+    ensures { λ r. ⌜ leftOf r (now (state .exit)) (now (mem .exit)) (now (tables .exit)) (now (steps .exit) ∷ now (reason .exit) ∷ []) ≡ hostRun true n (now (state .entry)) (now (mem .entry)) (now (tables .entry)) (now (steps .entry) ∷ now (reason .entry) ∷ []) ⌝ }
+{
+    if state.len() != 154 {
+        return BAD_CALL;
+    }
+    let r = to_interrupt(state_in(state), mem, tables, n);
+    tell(r, state, steps, reason)
+}
+
+// A device's interrupt.
+#[no_mangle]
+pub extern "C" fn nd110_raise(state: &mut [u16], level: u16, mem: &[u16], tables: &[u16]) -> u16
+    ensures { λ r. ⌜ leftOf r (now (state .exit)) (now (mem .entry)) (now (tables .entry)) [] ≡ hostRaise level (now (state .entry)) (now (mem .entry)) (now (tables .entry)) ⌝ }
+{
+    if state.len() != 154 {
+        return BAD_CALL;
+    }
+    let r = raise(state_in(state), level, mem, tables);
+    let a = r.answer;
+    let n = answer_number(a);
+    if n != 0 {
+        return n;
+    }
+    let after = r.state;
+    put_state(after, state);
+    0
+}
+
+// The machine of an image.
+#[no_mangle]
+pub extern "C" fn nd110_load(
+    state: &mut [u16],
+    image: &[u16],
+    mem: &mut [u16],
+    tables: &mut [u16],
+) -> u16
+    ensures { λ r. ⌜ leftOf r (now (state .exit)) (now (mem .exit)) (now (tables .exit)) [] ≡ hostLoad (now (image .entry)) (now (state .entry)) (now (mem .entry)) (now (tables .entry)) ⌝ }
+{
+    if state.len() != 154 {
+        return BAD_CALL;
+    }
+    let r = nd110::load(state_in(state), image, mem, tables);
+    let a = r.answer;
+    let n = answer_number(a);
+    if n != 0 {
+        return n;
+    }
+    let after = r.state;
+    put_state(after, state);
+    0
+}
+
+// The machine as an image; words of the output past it stay.
+#[no_mangle]
+pub extern "C" fn nd110_write(state: &[u16], mem: &[u16], tables: &[u16], out: &mut [u16]) -> u16
+    ensures { λ r. ⌜ r ≡ hostWrite (now (state .entry)) (now (mem .entry)) (now (tables .entry)) (now (out .entry)) ⌝ }
+    ensures { λ r. ⌜ now (out .exit) ≡ hostWritten (now (state .entry)) (now (mem .entry)) (now (tables .entry)) (now (out .entry)) ⌝ }
+{
+    if state.len() != 154 {
+        return BAD_CALL;
+    }
+    answer_number(nd110::write(state_in(state), mem, tables, out))
+}
+
+// The kinds of image entries that can be viewed: 1 memory, 4 page tables.
+fn known_target(kind: u16) -> bool
+    ensures { λ r. ⌜ r ≡ knownTarget kind ⌝ }
+{
+    if kind == 1 {
+        return true;
+    }
+    kind == 4
+}
+
+fn target_named(kind: u16) -> Target
+    ensures { λ r. ⌜ r ≡ targetNamed kind ⌝ }
+{
+    if kind == 1 {
+        return Target::Memory;
+    }
+    Target::Tables
+}
+
+// The call beside view, which tells its number.
+#[no_mangle]
+pub extern "C" fn nd110_view_answer(
+    kind: u16,
+    start: usize,
+    len: usize,
+    mem: &[u16],
+    tables: &[u16],
+) -> u16
+    ensures { λ r. ⌜ r ≡ hostViewAnswer kind start len (now (mem .entry)) (now (tables .entry)) ⌝ }
+{
+    if known_target(kind) {
+        return answer_number(nd110::view_answer(target_named(kind), start, len, mem, tables));
+    }
+    BAD_CALL
+}
+
+// A part of memory or page tables, to the front of the output; words of the output past it stay.
+#[no_mangle]
+pub extern "C" fn nd110_view<'a>(
+    kind: u16,
+    start: usize,
+    len: usize,
+    mem: &'a [u16],
+    tables: &'a [u16],
+    out: &mut [u16],
+) -> u16
+    ensures { λ r. ⌜ r ≡ hostView kind start len (now (mem .entry)) (now (tables .entry)) (length (now (out .entry))) ⌝ }
+    ensures { λ r. ⌜ now (out .exit) ≡ hostViewed kind start len (now (mem .entry)) (now (tables .entry)) (now (out .entry)) ⌝ }
+{
+    if out.len() < len {
+        return BAD_CALL;
+    }
+    let n = nd110_view_answer(kind, start, len, mem, tables);
+    if known_target(kind) {
+        let part = nd110::view(target_named(kind), start, len, mem, tables);
+        put(out, 0, part);
+    }
+    n
+}
