@@ -312,7 +312,8 @@ fn address(random: &mut Random, live: &[u16], paging: bool, physical: u16) -> u1
     }
 }
 
-fn instruction(random: &mut Random) -> u16 {
+/// A random instruction of any kind.
+pub fn instruction(random: &mut Random) -> u16 {
     if random.one_in(20) {
         return random.word();
     }

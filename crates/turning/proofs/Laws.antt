@@ -1,0 +1,127 @@
+-- Words of bytes, and text put byte by byte.
+-- Assumes nothing.
+use Prim.Native.Nat.{ℕ, zero, suc, _+_, _-_, _*_, _/_, _%_, _≤_, _<_}
+use mathlib.Core.Path.{_≡_, refl, sym, ap, _∙_}
+use mathlib.Core.List.{List, [], _∷_, _++_, append-assoc, append-nil}
+use native.Mathlib.Omega.{arith}
+use native.Mathlib.Nat.{add-zero}
+use native.Mathlib.Numerals.{add-one}
+use lib.ListN.{length, getD, set, take, drop, length-take, length-drop}
+use lib.Seq.{take-suc, take-suc-set, take-all, drop-length}
+use lib.Dec.{ltb}
+use borrow.Author.Tests.{lt-ltb, le-ltb}
+use Rattle.isa.specs.Answers.{LoadCall, loadCall}
+use Rattle.isa.specs.declared.answer.Answer.{Answer}
+use Rattle.isa.specs.declared.machine.State.{State}
+use Rattle.image.specs.Loading.{callOf}
+use Rattle.image.specs.declared.Loaded.{Loaded}
+use Rattle.turning.specs.Turn.{loadedBy, clearedState, imageTurned}
+use Rattle.turning.specs.Bytes.{wordsOf}
+use Rattle.turning.specs.Text.{decimalBefore, decimal, digit}
+
+-- ---- words
+
+pub words-length : (bs : List ℕ) → length (wordsOf bs) ≡ length bs / 2
+unfolding wordsOf
+words-length [] = refl
+words-length (h ∷ []) = refl
+words-length (h ∷ l ∷ bs) =
+    let e : suc (length bs / 2) ≡ suc (suc (length bs)) / 2 = omega arith in
+    ap suc (words-length bs) ∙ e
+
+pub word-at : (bs : List ℕ) (i : ℕ) → i * 2 + 1 < length bs
+    → getD (wordsOf bs) i 0 ≡ getD bs (i * 2) 0 * 256 + getD bs (i * 2 + 1) 0
+unfolding wordsOf
+word-at [] i h = absurd (omega arith)
+word-at (x ∷ []) i h = absurd (omega arith)
+word-at (x ∷ y ∷ bs) zero h = refl
+word-at (x ∷ y ∷ bs) (suc i) h =
+    let e : suc i * 2 ≡ suc (suc (i * 2)) = omega arith in
+    let f : suc i * 2 + 1 ≡ suc (suc (i * 2 + 1)) = omega arith in
+    let b = x ∷ y ∷ bs in
+    word-at bs i (omega arith)
+    ∙ sym (ap (λ (k : ℕ). getD b k 0 * 256 + getD b (suc i * 2 + 1) 0) e ∙ ap (λ (k : ℕ). getD b (suc (suc (i * 2))) 0 * 256 + getD b k 0) f)
+
+-- one more word
+pub word-more : (bs ws : List ℕ) (i : ℕ) → take i ws ≡ take i (wordsOf bs) → i < length bs / 2 → length bs / 2 ≤ length ws
+    → take (i + 1) (set ws i (getD bs (i * 2) 0 * 256 + getD bs (i * 2 + 1) 0)) ≡ take (i + 1) (wordsOf bs)
+word-more bs ws i e h r =
+    let v = getD bs (i * 2) 0 * 256 + getD bs (i * 2 + 1) 0 in
+    let n : i < length (wordsOf bs) = simp (words-length bs) h in
+    ap (λ (k : ℕ). take k (set ws i v)) (add-one i)
+    ∙ take-suc-set ws i v (omega arith)
+    ∙ ap (λ (x : List ℕ). x ++ (v ∷ [])) e
+    ∙ ap (λ (x : ℕ). take i (wordsOf bs) ++ (x ∷ [])) (sym (word-at bs i (omega arith)))
+    ∙ sym (take-suc (wordsOf bs) i 0 n)
+    ∙ ap (λ (k : ℕ). take k (wordsOf bs)) (sym (add-one i))
+
+-- ---- bytes put after a text
+
+pub put-none : (out : List ℕ) (at : ℕ) → take (at + 0) out ≡ take at out ++ []
+put-none out at = ap (λ (k : ℕ). take k out) (add-zero at) ∙ sym (append-nil (take at out))
+
+pub put-more : (before out bytes : List ℕ) (at i : ℕ) → take (at + i) out ≡ before ++ take i bytes → at + i < length out → i < length bytes
+    → take (at + (i + 1)) (set out (at + i) (getD bytes i 0)) ≡ before ++ take (i + 1) bytes
+put-more before out bytes at i e h j =
+    let v = getD bytes i 0 in
+    let n : at + (i + 1) ≡ suc (at + i) = omega arith in
+    ap (λ (k : ℕ). take k (set out (at + i) v)) n
+    ∙ take-suc-set out (at + i) v h
+    ∙ ap (λ (x : List ℕ). x ++ (v ∷ [])) e
+    ∙ append-assoc before (take i bytes) (v ∷ [])
+    ∙ ap (λ (x : List ℕ). before ++ x) (sym (take-suc bytes i 0 j))
+    ∙ ap (λ (k : ℕ). before ++ take k bytes) (sym (add-one i))
+
+-- ---- decimal digits, the last one first
+
+drop-set : (ds : List ℕ) (k v : ℕ) → k < length ds → drop k (set ds k v) ≡ v ∷ drop (suc k) ds
+drop-set (x ∷ ds) zero v h = refl
+drop-set (x ∷ ds) (suc k) v h = drop-set ds k v (omega arith)
+drop-set [] k v h = absurd (omega arith)
+
+pub last-digit : (ds : List ℕ) (at n : ℕ) → 0 < at → at ≤ length ds → n < 10
+    → drop (at - 1) (set ds (at - 1) (digit (n % 10))) ≡ decimalBefore at n (drop at ds)
+last-digit ds zero n z h l = absurd (omega arith)
+last-digit ds (suc k) n z h l =
+    let e : suc k - 1 ≡ k = omega arith in
+    rw e (drop-set ds k (digit (n % 10)) (omega arith) ∙ simp (lt-ltb n 10 l))
+
+pub more-digits : (ds : List ℕ) (at n : ℕ) → 0 < at → at ≤ length ds → 10 ≤ n
+    → decimalBefore (at - 1) (n / 10) (drop (at - 1) (set ds (at - 1) (digit (n % 10)))) ≡ decimalBefore at n (drop at ds)
+more-digits ds zero n z h l = absurd (omega arith)
+more-digits ds (suc k) n z h l =
+    let e : suc k - 1 ≡ k = omega arith in
+    rw e (ap (decimalBefore k (n / 10)) (drop-set ds k (digit (n % 10)) (omega arith)) ∙ simp (le-ltb n 10 l))
+
+pub all-dropped : (ds : List ℕ) → length ds ≡ 20 → drop 20 ds ≡ []
+all-dropped ds e = ap (λ (k : ℕ). drop k ds) (sym e) ∙ drop-length ds
+
+-- no place left
+pub no-digit : (at n : ℕ) (after : List ℕ) → at ≡ 0 → decimalBefore at n after ≡ after
+no-digit at n after e = ap (λ (k : ℕ). decimalBefore k n after) e
+
+-- ---- what was put, after what was put before it
+
+pub then : (x y z k l : List ℕ) → y ≡ x ++ k → z ≡ y ++ l → z ≡ x ++ (k ++ l)
+then x y z k l e f = f ∙ ap (λ (s : List ℕ). s ++ l) e ∙ append-assoc x k l
+
+pub four : (x a b c d j k l m : List ℕ) → a ≡ x ++ j → b ≡ a ++ k → c ≡ b ++ l → d ≡ c ++ m → d ≡ x ++ (j ++ k ++ l ++ m)
+four x a b c d j k l m e f g h = then x c d (j ++ k ++ l) m (then x b c (j ++ k) l (then x a b j k e f) g) h
+
+-- ---- an image loaded
+
+-- what load answers and leaves decides
+pub loaded-by : (r : Loaded) (m′ t′ i m t : List ℕ) (a : Answer) (s : State) → r .answer ≡ a → callOf r m′ t′ ≡ loadCall s i m t → s ≡ clearedState
+    → loadedBy a (callOf r m′ t′) ≡ imageTurned i m t
+unfolding imageTurned
+loaded-by r m′ t′ i m t a s d e z =
+    ap (λ (x : Answer). loadedBy x (callOf r m′ t′)) (sym d)
+    ∙ ap (λ (c : LoadCall). loadedBy (c .answer) c) (e ∙ ap (λ (x : State). loadCall x i m t) z)
+
+-- ---- twenty digits from their start on
+
+pub rest-of : (ds : List ℕ) (a : ℕ) → length ds ≡ 20 → a ≤ 20 → take (20 - a) (drop a ds) ≡ drop a ds
+rest-of ds a e h = take-all (20 - a) (drop a ds) (simp length-drop (omega arith))
+
+pub rest-length : (ds : List ℕ) (a : ℕ) → length (take (20 - a) (drop a ds)) ≤ 20
+rest-length ds a = simp length-take (omega arith)

@@ -1,0 +1,191 @@
+// The text that is printed, line by line.
+ghost use mathlib.Core.Path.{_≡_};
+ghost use mathlib.Core.List.{_++_};
+ghost use Prim.Native.Nat.{_+_, _≤_};
+ghost use lib.ListN.{length, take, drop};
+ghost use Rattle.isa.specs.Answers.{refusalNumber};
+ghost use Rattle.turning.specs.Text.{ascii, decimal, octal, line, reasonName, lowRegisters, highRegisters, endText, textOf};
+use crate::End;
+use crate::Turned;
+use isa::answer::Reason;
+use isa::answer::Refusal;
+
+// Bytes after the first `at` of the text; the text's new length.
+fn put(bytes: &[u8], out: &mut [u8], at: usize) -> usize
+    requires { ⌜ at + length (now bytes) ≤ length (now out) ⌝ }
+    ensures { λ r. ⌜ r ≡ at + length (now (bytes .entry)) ⌝ }
+    ensures { λ r. ⌜ take r (now (out .exit)) ≡ take at (now (out .entry)) ++ now (bytes .entry) ⌝ }
+{
+    let mut i = 0;
+    while i < bytes.len() {
+        out[at + i] = bytes[i];
+        i += 1;
+    }
+    at + i
+}
+
+// A name, a space, a value and the line's end.
+fn put_line(name: &[u8], value: &[u8], out: &mut [u8], at: usize) -> usize
+    requires { ⌜ at + length (now name) + length (now value) + 2 ≤ length (now out) ⌝ }
+    ensures { λ r. ⌜ r ≡ at + length (now (name .entry)) + length (now (value .entry)) + 2 ⌝ }
+    ensures { λ r. ⌜ take r (now (out .exit)) ≡ take at (now (out .entry)) ++ line (now (name .entry)) (now (value .entry)) ⌝ }
+{
+    let a = put(name, out, at);
+    let b = put(&[b' '], out, a);
+    let c = put(value, out, b);
+    put(&[b'\n'], out, c)
+}
+
+// A number's decimal digits at the end of 20 bytes; where they start.
+fn spell(n: u64, digits: &mut [u8]) -> usize
+    requires { ⌜ length (now digits) ≡ 20 ⌝ }
+    ensures { λ r. ⌜ r ≤ 20 ⌝ }
+    ensures { λ r. ⌜ drop r (now (digits .exit)) ≡ decimal n ⌝ }
+{
+    let mut at = 20;
+    let mut rest = n;
+    while 0 < at {
+        at -= 1;
+        digits[at] = 48 + (rest % 10) as u8;
+        if rest < 10 {
+            return at;
+        }
+        rest = rest / 10;
+    }
+    at
+}
+
+fn put_number(name: &[u8], n: u64, out: &mut [u8], at: usize) -> usize
+    requires { ⌜ at + length (now name) + 22 ≤ length (now out) ⌝ }
+    ensures { λ r. ⌜ r ≤ at + length (now (name .entry)) + 22 ⌝ }
+    ensures { λ r. ⌜ take r (now (out .exit)) ≡ take at (now (out .entry)) ++ line (now (name .entry)) (decimal n) ⌝ }
+{
+    let mut digits = [0u8; 20];
+    let start = spell(n, &mut digits);
+    put_line(name, &digits[start..20], out, at)
+}
+
+fn put_register(name: &[u8], w: u16, out: &mut [u8], at: usize) -> usize
+    requires { ⌜ at + length (now name) + 8 ≤ length (now out) ⌝ }
+    ensures { λ r. ⌜ r ≡ at + length (now (name .entry)) + 8 ⌝ }
+    ensures { λ r. ⌜ take r (now (out .exit)) ≡ take at (now (out .entry)) ++ line (now (name .entry)) (octal w) ⌝ }
+{
+    let digits = [
+        48 + (w / 32768) as u8,
+        48 + (w / 4096 % 8) as u8,
+        48 + (w / 512 % 8) as u8,
+        48 + (w / 64 % 8) as u8,
+        48 + (w / 8 % 8) as u8,
+        48 + (w % 8) as u8,
+    ];
+    put_line(name, &digits, out, at)
+}
+
+// STS, D, P and B.
+fn put_low(e: End, out: &mut [u8], at: usize) -> usize
+    requires { ⌜ at + 38 ≤ length (now out) ⌝ }
+    ensures { λ r. ⌜ r ≡ at + 38 ⌝ }
+    ensures { λ r. ⌜ take r (now (out .exit)) ≡ take at (now (out .entry)) ++ lowRegisters e ⌝ }
+{
+    let d = put_register(&[b'S', b'T', b'S'], e.sts, out, at);
+    let p = put_register(&[b'D'], e.d, out, d);
+    let b = put_register(&[b'P'], e.p, out, p);
+    put_register(&[b'B'], e.b, out, b)
+}
+
+// L, A, T and X.
+fn put_high(e: End, out: &mut [u8], at: usize) -> usize
+    requires { ⌜ at + 36 ≤ length (now out) ⌝ }
+    ensures { λ r. ⌜ r ≡ at + 36 ⌝ }
+    ensures { λ r. ⌜ take r (now (out .exit)) ≡ take at (now (out .entry)) ++ highRegisters e ⌝ }
+{
+    let a = put_register(&[b'L'], e.l, out, at);
+    let t = put_register(&[b'A'], e.a, out, a);
+    let x = put_register(&[b'T'], e.t, out, t);
+    put_register(&[b'X'], e.x, out, x)
+}
+
+fn put_reason(w: Reason, out: &mut [u8]) -> usize
+    requires { ⌜ 16 ≤ length (now out) ⌝ }
+    ensures { λ r. ⌜ r ≤ 16 ⌝ }
+    ensures { λ r. ⌜ take r (now (out .exit)) ≡ line (ascii "ended") (reasonName w) ⌝ }
+{
+    let name = &[b'e', b'n', b'd', b'e', b'd'];
+    match w {
+        Reason::Stopped => put_line(name, &[b's', b't', b'o', b'p', b'p', b'e', b'd'], out, 0),
+        Reason::Level => put_line(name, &[b'l', b'e', b'v', b'e', b'l'], out, 0),
+        Reason::Spent => put_line(name, &[b's', b'p', b'e', b'n', b't'], out, 0),
+        Reason::Interrupt => put_line(
+            name,
+            &[b'i', b'n', b't', b'e', b'r', b'r', b'u', b'p', b't'],
+            out,
+            0,
+        ),
+    }
+}
+
+fn put_end(e: End, out: &mut [u8]) -> usize
+    requires { ⌜ 144 ≤ length (now out) ⌝ }
+    ensures { λ r. ⌜ r ≤ 144 ⌝ }
+    ensures { λ r. ⌜ take r (now (out .exit)) ≡ endText e ⌝ }
+{
+    let w = e.reason;
+    let a = put_reason(w, out);
+    let b = put_number(&[b's', b't', b'e', b'p', b's'], e.steps, out, a);
+    let c = put_number(&[b'l', b'e', b'v', b'e', b'l'], e.level as u64, out, b);
+    let d = put_low(e, out, c);
+    put_high(e, out, d)
+}
+
+// A refusal's number.
+fn number_of(r: Refusal) -> u64
+    ensures { λ n. ⌜ n ≡ refusalNumber r ⌝ }
+{
+    match r {
+        Refusal::Sizes => 1,
+        Refusal::State => 2,
+        Refusal::RaiseLevel => 3,
+        Refusal::Contents => 4,
+        Refusal::Kind => 5,
+        Refusal::Target => 6,
+        Refusal::Overlap => 7,
+        Refusal::Bodies => 8,
+        Refusal::View => 9,
+        Refusal::Output => 10,
+    }
+}
+
+fn put_turned(t: Turned, out: &mut [u8]) -> usize
+    requires { ⌜ 144 ≤ length (now out) ⌝ }
+    ensures { λ r. ⌜ r ≤ 144 ⌝ }
+    ensures { λ r. ⌜ take r (now (out .exit)) ≡ textOf t ⌝ }
+{
+    match t {
+        Turned::Refused(r) => put_number(
+            &[b'r', b'e', b'f', b'u', b's', b'e', b'd'],
+            number_of(r),
+            out,
+            0,
+        ),
+        Turned::Ended(e) => put_end(e, out),
+    }
+}
+
+// A text: the first `len` of the bytes.
+pub struct Text {
+    pub bytes: [u8; 144],
+    pub len: usize,
+}
+
+// What is printed.
+pub fn text_of(t: Turned) -> Text
+    ensures { λ r. ⌜ r .len ≤ length (r .bytes) ⌝ }
+    ensures { λ r. ⌜ take (r .len) (r .bytes) ≡ textOf t ⌝ }
+{
+    let mut bytes = [0u8; 144];
+    let len = put_turned(t, &mut bytes);
+    Text {
+        bytes: bytes,
+        len: len,
+    }
+}
