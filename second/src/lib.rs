@@ -7,6 +7,7 @@
 mod address;
 mod answer;
 mod arithmetic;
+pub mod cases;
 mod decode;
 mod disasm;
 mod execute;

@@ -1,0 +1,116 @@
+// The machine that every case starts from, before its changes.
+use isa::machine::Control;
+use isa::machine::State;
+
+// A word that tells its index.
+fn pattern(i: usize) -> u16 {
+    (i % 1048576 * 40503 % 65521) as u16
+}
+
+// Registers at 8 * level + number, then the control words.
+fn state_word(i: usize) -> u16 {
+    if i < 128 {
+        if i % 8 == 0 {
+            return (i * 3 % 256 / 2 * 2) as u16;
+        }
+        return pattern(i + 7);
+    }
+    match i {
+        128 => 3,
+        129 => 1,
+        130 => 1,
+        131 => 0,
+        132 => 8,
+        133 => 65535,
+        134 => 5,
+        135 => 0,
+        136 => 2046,
+        137 => 0,
+        _ => pcr(i),
+    }
+}
+
+// PCRs: ring 2, the normal table and the alternate one go with the level.
+fn pcr(i: usize) -> u16 {
+    ((i % 4 + 2) % 4 * 512 + (i % 4 + 3) % 4 * 128 + 2) as u16
+}
+
+// Every access permitted to ring 2; pages of memory in another order in each table.
+fn entry(i: usize, size: usize) -> u16 {
+    if size < 1024 {
+        return 0;
+    }
+    let pages = size / 1024;
+    (58368 + (i % 64 + i / 64 % 4) % pages % 512) as u16
+}
+
+// Registers and control words of the base machine.
+pub fn base_state() -> [u16; 154] {
+    let mut flat = [0u16; 154];
+    let mut i = 0;
+    while i < 154 {
+        flat[i] = state_word(i);
+        i += 1;
+    }
+    flat
+}
+
+// A word of the base machine, by kind: 1 memory, 2 page tables, beside so much memory.
+fn base_word(kind: u16, size: usize, i: usize) -> u16 {
+    if kind == 1 {
+        return pattern(i);
+    }
+    entry(i, size)
+}
+
+// All words of a kind, beside so much memory.
+pub fn fill(kind: u16, size: usize, to: &mut [u16]) {
+    let mut i = 0;
+    while i < to.len() {
+        to[i] = base_word(kind, size, i);
+        i += 1;
+    }
+}
+
+fn registers(flat: &[u16; 154]) -> [u16; 128] {
+    let mut regs = [0u16; 128];
+    let mut i = 0;
+    while i < 128 {
+        regs[i] = flat[i];
+        i += 1;
+    }
+    regs
+}
+
+fn pcrs(flat: &[u16; 154]) -> [u16; 16] {
+    let mut found = [0u16; 16];
+    let mut i = 0;
+    while i < 16 {
+        found[i] = flat[i + 138];
+        i += 1;
+    }
+    found
+}
+
+// The state of registers and control words in image order.
+pub fn state_of(flat: &[u16; 154]) -> State {
+    let regs = registers(flat);
+    let pcr = pcrs(flat);
+    let control = Control {
+        interrupts: flat[129],
+        paging: flat[130],
+        stopped: flat[131],
+        pid: flat[132],
+        pie: flat[133],
+        pvl: flat[134],
+        iid: flat[135],
+        iie: flat[136],
+        pgs: flat[137],
+    };
+    State {
+        regs: regs,
+        level: flat[128],
+        control: control,
+        pcr: pcr,
+    }
+}

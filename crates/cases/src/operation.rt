@@ -1,0 +1,194 @@
+// The operations, by number.
+use crate::answer::Told;
+use crate::answer::answer_number;
+use crate::answer::reason_number;
+use crate::answer::refusal_number;
+use crate::base::fill;
+use crate::base::state_of;
+use crate::numbers::get;
+use crate::numbers::low;
+use crate::numbers::wide;
+use crate::numbers::within;
+use crate::show::sum;
+use isa::answer::RunAnswer;
+use isa::answer::StepAnswer;
+use isa::answer::Target;
+use isa::machine::State;
+use nd110::runs::Ran;
+
+fn step(s: State, mem: &mut [u16], tables: &mut [u16]) -> Told {
+    let r = nd110::step::step(s, mem, tables);
+    let after = r.state;
+    let a = r.answer;
+    match a {
+        StepAnswer::Stepped(n) => Told {
+            refusal: 0,
+            first: n as u64,
+            second: 0,
+            state: after,
+        },
+        StepAnswer::Refused(x) => Told {
+            refusal: refusal_number(x),
+            first: 0,
+            second: 0,
+            state: after,
+        },
+    }
+}
+
+fn ran(r: Ran) -> Told {
+    let after = r.state;
+    let a = r.answer;
+    match a {
+        RunAnswer::Ran(n, reason) => Told {
+            refusal: 0,
+            first: reason_number(reason),
+            second: n,
+            state: after,
+        },
+        RunAnswer::Refused(x) => Told {
+            refusal: refusal_number(x),
+            first: 0,
+            second: 0,
+            state: after,
+        },
+    }
+}
+
+fn raise(s: State, level: u16, mem: &[u16], tables: &[u16]) -> Told {
+    let r = nd110::raise::raise(s, level, mem, tables);
+    let after = r.state;
+    let a = r.answer;
+    Told {
+        refusal: answer_number(a),
+        first: 0,
+        second: 0,
+        state: after,
+    }
+}
+
+// An image in lent words.
+fn load(s: State, image: &[u16], mem: &mut [u16], tables: &mut [u16]) -> Told {
+    let r = nd110::load(s, image, mem, tables);
+    let after = r.state;
+    let a = r.answer;
+    Told {
+        refusal: answer_number(a),
+        first: 0,
+        second: 0,
+        state: after,
+    }
+}
+
+// The arguments past the first, as an image.
+fn image(words: &[u64], at: usize, to: &mut [u16]) {
+    let mut i = 0;
+    while i < to.len() {
+        to[i] = low(get(words, std::num::wrapping_add_usize(at, 5), i));
+        i += 1;
+    }
+}
+
+fn load_words(
+    s: State,
+    words: &[u64],
+    at: usize,
+    to: &mut [u16],
+    mem: &mut [u16],
+    tables: &mut [u16],
+) -> Told {
+    image(words, at, to);
+    load(s, to, mem, tables)
+}
+
+// The output is the pattern's words before, so that those past the image show.
+fn write(s: State, mem: &[u16], tables: &[u16], out: &mut [u16]) -> Told {
+    fill(1, 0, out);
+    let a = nd110::write(s, mem, tables, out);
+    Told {
+        refusal: answer_number(a),
+        first: sum(out),
+        second: 0,
+        state: s,
+    }
+}
+
+fn target(n: u64) -> Target {
+    if n == 0 {
+        return Target::Memory;
+    }
+    Target::Tables
+}
+
+fn view<'a>(
+    s: State,
+    kind: u64,
+    start: usize,
+    len: usize,
+    mem: &'a [u16],
+    tables: &'a [u16],
+) -> Told {
+    let a = nd110::view_answer(target(kind), start, len, mem, tables);
+    let part = nd110::view(target(kind), start, len, mem, tables);
+    Told {
+        refusal: answer_number(a),
+        first: part.len() as u64,
+        second: sum(part),
+        state: s,
+    }
+}
+
+// An image loaded over lent words that were overwritten.
+fn load_over(image: &[u16], mem: &mut [u16], tables: &mut [u16]) -> Told {
+    fill(2, 1024, mem);
+    fill(1, 0, tables);
+    let s = state_of(&[0; 154]);
+    load(s, image, mem, tables)
+}
+
+// Written, then loaded.
+fn write_load(s: State, mem: &mut [u16], tables: &mut [u16], out: &mut [u16]) -> Told {
+    let told = write(s, mem, tables, out);
+    let again = load_over(out, mem, tables);
+    let after = again.state;
+    Told {
+        refusal: again.refusal,
+        first: told.first,
+        second: told.refusal,
+        state: after,
+    }
+}
+
+// A case's operation, by its number.
+pub fn act(
+    words: &[u64],
+    at: usize,
+    flat: &[u16; 154],
+    mem: &mut [u16],
+    tables: &mut [u16],
+    out: &mut [u16],
+) -> Told {
+    let s = state_of(flat);
+    let a = get(words, at, 5);
+    let n = within(a, out);
+    match get(words, at, 1) {
+        0 => step(s, mem, tables),
+        1 => ran(nd110::runs::through(s, mem, tables, a)),
+        2 => ran(nd110::runs::to_interrupt(s, mem, tables, a)),
+        3 => raise(s, low(a), mem, tables),
+        4 => {
+            let len = within(get(words, at, 4), out);
+            load_words(s, words, at, &mut out[..len], mem, tables)
+        }
+        5 => write(s, mem, tables, &mut out[..n]),
+        6 => view(
+            s,
+            a,
+            wide(get(words, at, 6)),
+            wide(get(words, at, 7)),
+            mem,
+            tables,
+        ),
+        _ => write_load(s, mem, tables, &mut out[..n]),
+    }
+}

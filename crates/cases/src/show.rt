@@ -1,0 +1,118 @@
+// An answer's line: octal numbers and checksums.
+ghost use Prim.Native.Nat.{_<_};
+use crate::answer::Told;
+use isa::machine::State;
+
+// A checksum with one word more.
+fn added(h: u64, w: u16) -> u64
+    requires { ⌜ h < 4294967291 ⌝ }
+    ensures { λ r. ⌜ r < 4294967291 ⌝ }
+{
+    (h * 1000003 + w as u64 + 1) % 4294967291
+}
+
+// The checksum of words: each counts by its place.
+pub fn sum(words: &[u16]) -> u64
+    ensures { λ r. ⌜ r < 4294967291 ⌝ }
+{
+    let mut h = 1;
+    let mut i = 0;
+    while i < words.len() {
+        h = added(h, words[i]);
+        i += 1;
+    }
+    h
+}
+
+// The control words in image order.
+fn control_words(s: State) -> [u16; 26] {
+    let c = s.control;
+    let p = s.pcr;
+    [
+        s.level,
+        c.interrupts,
+        c.paging,
+        c.stopped,
+        c.pid,
+        c.pie,
+        c.pvl,
+        c.iid,
+        c.iie,
+        c.pgs,
+        p[0],
+        p[1],
+        p[2],
+        p[3],
+        p[4],
+        p[5],
+        p[6],
+        p[7],
+        p[8],
+        p[9],
+        p[10],
+        p[11],
+        p[12],
+        p[13],
+        p[14],
+        p[15],
+    ]
+}
+
+fn digit(w: u16) -> u8 {
+    (48 + w % 8) as u8
+}
+
+// A word in octal.
+fn word(w: u16) {
+    io::write_all(
+        1,
+        &[
+            32,
+            digit(w / 32768),
+            digit(w / 4096),
+            digit(w / 512),
+            digit(w / 64),
+            digit(w / 8),
+            digit(w),
+        ],
+    );
+}
+
+// A checksum in hexadecimal.
+fn checksum(h: u64) {
+    io::write_all(1, b" ");
+    io::print_hex(1, h, 8);
+}
+
+fn number(n: u64) {
+    io::write_all(1, b" ");
+    io::print_decimal(1, n);
+}
+
+// The registers of the running level; a level out of range counts modulo 16.
+fn running(s: State) {
+    let regs = s.regs;
+    let level = s.level as usize % 16;
+    let mut i = 0;
+    while i < 8 {
+        word(regs[level * 8 + i]);
+        i += 1;
+    }
+}
+
+// Refusal, answers, checksums of registers, control words, page tables and memory, then level and registers of the running level.
+pub fn show(told: Told, mem: &[u16], tables: &[u16]) {
+    let s = told.state;
+    let regs = s.regs;
+    let controls = control_words(s);
+    io::print_decimal(1, told.refusal);
+    number(told.first);
+    number(told.second);
+    checksum(sum(&regs));
+    checksum(sum(&controls));
+    checksum(sum(tables));
+    checksum(sum(mem));
+    number(s.level as u64);
+    running(s);
+    io::write_all(1, b"\n");
+}
