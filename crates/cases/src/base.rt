@@ -45,7 +45,7 @@ fn entry(i: usize, size: usize) -> u16 {
 }
 
 // Registers and control words of the base machine.
-pub fn base_state() -> [u16; 154] {
+pub(crate) fn base_state() -> [u16; 154] {
     let mut flat = [0u16; 154];
     let mut i = 0;
     while i < 154 {
@@ -64,7 +64,7 @@ fn base_word(kind: u16, size: usize, i: usize) -> u16 {
 }
 
 // All words of a kind, beside so much memory.
-pub fn fill(kind: u16, size: usize, to: &mut [u16]) {
+pub(crate) fn fill(kind: u16, size: usize, to: &mut [u16]) {
     let mut i = 0;
     while i < to.len() {
         to[i] = base_word(kind, size, i);
@@ -93,7 +93,7 @@ fn pcrs(flat: &[u16; 154]) -> [u16; 16] {
 }
 
 // The state of registers and control words in image order.
-pub fn state_of(flat: &[u16; 154]) -> State {
+pub(crate) fn state_of(flat: &[u16; 154]) -> State {
     let regs = registers(flat);
     let pcr = pcrs(flat);
     let control = Control {

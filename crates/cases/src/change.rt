@@ -27,7 +27,7 @@ fn change(flat: &mut [u16; 154], mem: &mut [u16], tables: &mut [u16], at: usize,
 }
 
 // All changes of a case: pairs of place and word, after the arguments.
-pub fn change_all(
+pub(crate) fn change_all(
     words: &[u64],
     at: usize,
     flat: &mut [u16; 154],

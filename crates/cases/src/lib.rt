@@ -1,6 +1,7 @@
 // Cases of the second engine, run by the proved one: standard input has a case a line, standard output gets an answer a line
-// (second/NOTES.md has the format). No contract: what is read and written cannot be said of.
+// (second/NOTES.md has the format). No contract can say what is read and written.
 ghost use mathlib.Core.Path.{_≡_};
+ghost use Prim.Native.Nat.{_≤_};
 ghost use lib.ListN.{length};
 use crate::base::base_state;
 use crate::base::fill;
@@ -88,8 +89,10 @@ fn output_words() -> [u16; 70000]
     [0; 70000]
 }
 
-// Reads the cases and answers them.
-pub fn check() {
+// Reads the cases and answers them; the bytes read.
+pub fn check() -> usize
+    ensures { λ n. ⌜ n ≤ 524288 ⌝ }
+{
     let mut text = text_bytes();
     let mut words = case_numbers();
     let n = io::read_full(0, &mut text);
@@ -98,4 +101,5 @@ pub fn check() {
     let mut tables = table_words();
     let mut out = output_words();
     all(&words, count, &mut mem, &mut tables, &mut out);
+    n
 }

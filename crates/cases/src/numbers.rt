@@ -47,7 +47,7 @@ fn next(r: Reading, b: u8, out: &mut [u64]) -> Reading {
 }
 
 // The numbers of a text whose last byte is none of a number; answers how many.
-pub fn numbers(text: &[u8], out: &mut [u64]) -> usize {
+pub(crate) fn numbers(text: &[u8], out: &mut [u64]) -> usize {
     let mut r = Reading {
         count: 0,
         value: 0,
@@ -62,7 +62,7 @@ pub fn numbers(text: &[u8], out: &mut [u64]) -> usize {
 }
 
 // The k-th number from a place on, 0 past the end.
-pub fn get(words: &[u64], at: usize, k: usize) -> u64 {
+pub(crate) fn get(words: &[u64], at: usize, k: usize) -> u64 {
     if words.len() <= at {
         return 0;
     }
@@ -73,17 +73,17 @@ pub fn get(words: &[u64], at: usize, k: usize) -> u64 {
 }
 
 // A number as an index.
-pub fn wide(v: u64) -> usize {
+pub(crate) fn wide(v: u64) -> usize {
     v as usize
 }
 
 // A number as a word.
-pub fn low(v: u64) -> u16 {
+pub(crate) fn low(v: u64) -> u16 {
     (v % 65536) as u16
 }
 
 // A number as a count of words, at most all of them.
-pub fn within(v: u64, words: &[u16]) -> usize
+pub(crate) fn within(v: u64, words: &[u16]) -> usize
     ensures { λ r. ⌜ Counts r (now (words .entry)) ⌝ }
 {
     let k = v as usize;

@@ -1,8 +1,5 @@
 // The operations, by number.
 use crate::answer::Told;
-use crate::answer::answer_number;
-use crate::answer::reason_number;
-use crate::answer::refusal_number;
 use crate::base::fill;
 use crate::base::state_of;
 use crate::numbers::get;
@@ -10,6 +7,9 @@ use crate::numbers::low;
 use crate::numbers::wide;
 use crate::numbers::within;
 use crate::show::sum;
+use answers::answer_number;
+use answers::reason_number;
+use answers::refusal_number;
 use isa::answer::RunAnswer;
 use isa::answer::StepAnswer;
 use isa::answer::Target;
@@ -28,7 +28,7 @@ fn step(s: State, mem: &mut [u16], tables: &mut [u16]) -> Told {
             state: after,
         },
         StepAnswer::Refused(x) => Told {
-            refusal: refusal_number(x),
+            refusal: refusal_number(x) as u64,
             first: 0,
             second: 0,
             state: after,
@@ -42,12 +42,12 @@ fn ran(r: Ran) -> Told {
     match a {
         RunAnswer::Ran(n, reason) => Told {
             refusal: 0,
-            first: reason_number(reason),
+            first: reason_number(reason) as u64,
             second: n,
             state: after,
         },
         RunAnswer::Refused(x) => Told {
-            refusal: refusal_number(x),
+            refusal: refusal_number(x) as u64,
             first: 0,
             second: 0,
             state: after,
@@ -60,7 +60,7 @@ fn raise(s: State, level: u16, mem: &[u16], tables: &[u16]) -> Told {
     let after = r.state;
     let a = r.answer;
     Told {
-        refusal: answer_number(a),
+        refusal: answer_number(a) as u64,
         first: 0,
         second: 0,
         state: after,
@@ -73,7 +73,7 @@ fn load(s: State, image: &[u16], mem: &mut [u16], tables: &mut [u16]) -> Told {
     let after = r.state;
     let a = r.answer;
     Told {
-        refusal: answer_number(a),
+        refusal: answer_number(a) as u64,
         first: 0,
         second: 0,
         state: after,
@@ -106,7 +106,7 @@ fn write(s: State, mem: &[u16], tables: &[u16], out: &mut [u16]) -> Told {
     fill(1, 0, out);
     let a = nd110::write(s, mem, tables, out);
     Told {
-        refusal: answer_number(a),
+        refusal: answer_number(a) as u64,
         first: sum(out),
         second: 0,
         state: s,
@@ -131,7 +131,7 @@ fn view<'a>(
     let a = nd110::view_answer(target(kind), start, len, mem, tables);
     let part = nd110::view(target(kind), start, len, mem, tables);
     Told {
-        refusal: answer_number(a),
+        refusal: answer_number(a) as u64,
         first: part.len() as u64,
         second: sum(part),
         state: s,
@@ -160,7 +160,7 @@ fn write_load(s: State, mem: &mut [u16], tables: &mut [u16], out: &mut [u16]) ->
 }
 
 // A case's operation, by its number.
-pub fn act(
+pub(crate) fn act(
     words: &[u64],
     at: usize,
     flat: &[u16; 154],

@@ -12,7 +12,7 @@ fn added(h: u64, w: u16) -> u64
 }
 
 // The checksum of words: each counts by its place.
-pub fn sum(words: &[u16]) -> u64
+pub(crate) fn sum(words: &[u16]) -> u64
     ensures { λ r. ⌜ r < 4294967291 ⌝ }
 {
     let mut h = 1;
@@ -101,7 +101,7 @@ fn running(s: State) {
 }
 
 // Refusal, answers, checksums of registers, control words, page tables and memory, then level and registers of the running level.
-pub fn show(told: Told, mem: &[u16], tables: &[u16]) {
+pub(crate) fn show(told: Told, mem: &[u16], tables: &[u16]) {
     let s = told.state;
     let regs = s.regs;
     let controls = control_words(s);

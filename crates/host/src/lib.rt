@@ -4,25 +4,27 @@ ghost use mathlib.Core.Path.{_≡_};
 ghost use mathlib.Core.Bool.{true, false};
 ghost use mathlib.Core.List.{_∷_, []};
 ghost use lib.ListN.{length};
-ghost use Rattle.host.specs.Calls.{Left, leftOf, hostStep, hostRun, runEnd, hostRaise, hostLoad, hostWrite, hostWritten, knownTarget, targetNamed, hostViewAnswer, hostView, hostViewed};
+ghost use Rattle.host.specs.Calls.{leftOf, hostStep, hostRun, runEnd, reasonGiven, hostRaise, hostLoad, hostWrite, hostWritten, knownTarget, targetNamed, hostViewAnswer, hostView, hostViewed};
+ghost use Rattle.isa.specs.Answers.{runCall};
 ghost use Rattle.nd110.specs.Calls.{runOf};
-use crate::numbers::answer_number;
-use crate::numbers::interrupt_given;
-use crate::numbers::reason_given;
-use crate::numbers::run_number;
-use crate::numbers::step_number;
-use crate::numbers::steps_taken;
 use crate::words::put;
 use crate::words::put_state;
 use crate::words::state_in;
+use answers::answer_number;
+use answers::interrupt_given;
+use answers::reason_number;
+use answers::run_number;
+use answers::step_number;
+use answers::steps_taken;
+use isa::answer::RunAnswer;
 use isa::answer::Target;
+use isa::machine::State;
 use nd110::raise::raise;
 use nd110::runs::Ran;
 use nd110::runs::through;
 use nd110::runs::to_interrupt;
 use nd110::step::step;
 
-mod numbers;
 mod words;
 
 // The number of a call that is no operation.
@@ -53,6 +55,16 @@ pub extern "C" fn nd110_step(
     0
 }
 
+// A run's reason, 0 for one that was refused.
+fn reason_given(a: RunAnswer) -> u16
+    ensures { λ n. ⌜ n ≡ reasonGiven a ⌝ }
+{
+    match a {
+        RunAnswer::Ran(_, w) => reason_number(w),
+        RunAnswer::Refused(_) => 0,
+    }
+}
+
 // What a run answered, to the lent words.
 fn tell(r: Ran, state: &mut [u16], steps: &mut u64, reason: &mut u16) -> u16
     requires { ⌜ length (now state) ≡ 154 ⌝ }
@@ -70,6 +82,35 @@ fn tell(r: Ran, state: &mut [u16], steps: &mut u64, reason: &mut u16) -> u16
     0
 }
 
+// Either run.
+fn run_by(s: State, mem: &mut [u16], tables: &mut [u16], n: u64, first: bool) -> Ran
+    ensures { λ r. ⌜ runOf r (now (mem .exit)) (now (tables .exit)) ≡ runCall first n s (now (mem .entry)) (now (tables .entry)) ⌝ }
+{
+    if first {
+        return to_interrupt(s, mem, tables, n);
+    }
+    through(s, mem, tables, n)
+}
+
+// Either run of the words' state.
+fn run_words(
+    state: &mut [u16],
+    mem: &mut [u16],
+    tables: &mut [u16],
+    n: u64,
+    first: bool,
+    steps: &mut u64,
+    reason: &mut u16,
+) -> u16
+    ensures { λ r. ⌜ leftOf r (now (state .exit)) (now (mem .exit)) (now (tables .exit)) (now (steps .exit) ∷ now (reason .exit) ∷ []) ≡ hostRun first n (now (state .entry)) (now (mem .entry)) (now (tables .entry)) (now (steps .entry) ∷ now (reason .entry) ∷ []) ⌝ }
+{
+    if state.len() != 154 {
+        return BAD_CALL;
+    }
+    let r = run_by(state_in(state), mem, tables, n, first);
+    tell(r, state, steps, reason)
+}
+
 // At most n steps, interrupts and changes of level included. `steps` gets the steps taken, `reason` the reason's number.
 #[no_mangle]
 pub extern "C" fn nd110_run(
@@ -82,11 +123,7 @@ pub extern "C" fn nd110_run(
 ) -> u16
     ensures { λ r. ⌜ leftOf r (now (state .exit)) (now (mem .exit)) (now (tables .exit)) (now (steps .exit) ∷ now (reason .exit) ∷ []) ≡ hostRun false n (now (state .entry)) (now (mem .entry)) (now (tables .entry)) (now (steps .entry) ∷ now (reason .entry) ∷ []) ⌝ }
 {
-    if state.len() != 154 {
-        return BAD_CALL;
-    }
-    let r = through(state_in(state), mem, tables, n);
-    tell(r, state, steps, reason)
+    run_words(state, mem, tables, n, false, steps, reason)
 }
 
 // At most n steps, up to the first that gives an interrupt, or before a change of level.
@@ -101,11 +138,7 @@ pub extern "C" fn nd110_run_to_interrupt(
 ) -> u16
     ensures { λ r. ⌜ leftOf r (now (state .exit)) (now (mem .exit)) (now (tables .exit)) (now (steps .exit) ∷ now (reason .exit) ∷ []) ≡ hostRun true n (now (state .entry)) (now (mem .entry)) (now (tables .entry)) (now (steps .entry) ∷ now (reason .entry) ∷ []) ⌝ }
 {
-    if state.len() != 154 {
-        return BAD_CALL;
-    }
-    let r = to_interrupt(state_in(state), mem, tables, n);
-    tell(r, state, steps, reason)
+    run_words(state, mem, tables, n, true, steps, reason)
 }
 
 // A device's interrupt.

@@ -10,7 +10,7 @@ use isa::machine::Control;
 use isa::machine::State;
 
 // All words of `from`, to those of `to` at `at`.
-pub fn put(to: &mut [u16], at: usize, from: &[u16])
+pub(crate) fn put(to: &mut [u16], at: usize, from: &[u16])
     requires { ⌜ at + length (now from) ≤ length (now to) ⌝ }
     ensures { λ _. ⌜ now (to .exit) ≡ paste (now (to .entry)) at (now (from .entry)) (length (now (from .entry))) ⌝ }
 {
@@ -51,7 +51,7 @@ fn state_of(regs: &[u16], control: &[u16]) -> State
 }
 
 // The state of lent words.
-pub fn state_in(words: &[u16]) -> State
+pub(crate) fn state_in(words: &[u16]) -> State
     requires { ⌜ length (now words) ≡ 154 ⌝ }
     ensures { λ s. ⌜ s ≡ stateIn (now (words .entry)) ⌝ }
 {
@@ -78,7 +78,7 @@ fn scalars(s: State) -> [u16; 10]
 }
 
 // A state, to the lent words.
-pub fn put_state(s: State, words: &mut [u16])
+pub(crate) fn put_state(s: State, words: &mut [u16])
     requires { ⌜ length (now words) ≡ 154 ⌝ }
     ensures { λ _. ⌜ now (words .exit) ≡ wordsOf s ⌝ }
 {

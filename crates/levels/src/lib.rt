@@ -63,8 +63,13 @@ pub fn opened(s: State) -> Core
     }
 }
 
+// The registers and the PCRs of all levels.
+pub type AllRegisters = [u16; 128];
+
+pub type AllPcrs = [u16; 16];
+
 // The state of the running level's words and those of all levels.
-pub fn closed(level: u16, c: Core, regs: [u16; 128], pcrs: [u16; 16]) -> State
+pub fn closed(level: u16, c: Core, regs: AllRegisters, pcrs: AllPcrs) -> State
     requires { ⌜ level < 16 ⌝ }
     ensures { λ s. ⌜ s ≡ pack level c regs pcrs ⌝ }
 {

@@ -3,12 +3,11 @@ ghost use mathlib.Core.Path.{_≡_};
 ghost use mathlib.Core.List.{_++_};
 ghost use Prim.Native.Nat.{_+_, _≤_};
 ghost use lib.ListN.{length, take, drop};
-ghost use Rattle.isa.specs.Answers.{refusalNumber};
 ghost use Rattle.turning.specs.Text.{ascii, decimal, octal, line, reasonName, lowRegisters, highRegisters, endText, textOf};
 use crate::End;
 use crate::Turned;
+use answers::refusal_number;
 use isa::answer::Reason;
-use isa::answer::Refusal;
 
 // Bytes after the first `at` of the text; the text's new length.
 fn put(bytes: &[u8], out: &mut [u8], at: usize) -> usize
@@ -137,24 +136,6 @@ fn put_end(e: End, out: &mut [u8]) -> usize
     put_high(e, out, d)
 }
 
-// A refusal's number.
-fn number_of(r: Refusal) -> u64
-    ensures { λ n. ⌜ n ≡ refusalNumber r ⌝ }
-{
-    match r {
-        Refusal::Sizes => 1,
-        Refusal::State => 2,
-        Refusal::RaiseLevel => 3,
-        Refusal::Contents => 4,
-        Refusal::Kind => 5,
-        Refusal::Target => 6,
-        Refusal::Overlap => 7,
-        Refusal::Bodies => 8,
-        Refusal::View => 9,
-        Refusal::Output => 10,
-    }
-}
-
 fn put_turned(t: Turned, out: &mut [u8]) -> usize
     requires { ⌜ 144 ≤ length (now out) ⌝ }
     ensures { λ r. ⌜ r ≤ 144 ⌝ }
@@ -163,7 +144,7 @@ fn put_turned(t: Turned, out: &mut [u8]) -> usize
     match t {
         Turned::Refused(r) => put_number(
             &[b'r', b'e', b'f', b'u', b's', b'e', b'd'],
-            number_of(r),
+            refusal_number(r) as u64,
             out,
             0,
         ),

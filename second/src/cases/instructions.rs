@@ -208,7 +208,7 @@ fn registers(cases: &mut Vec<Case>) {
         for pair in 0..64 {
             let form = (pair + pair / 8 + operation) % 4;
             let word = 0o144000 | operation << 8 | form << 6 | pair;
-            let sts = FLAGS[usize::from(pair / 2 % 2)];
+            let sts = FLAGS[usize::from((pair / 8 + operation) % 2)];
             cases.push(Case::step("register").reg(Reg::Sts, sts).at_p(word));
         }
     }

@@ -1,7 +1,7 @@
 -- The image's machine, or a refusal.
 -- Assumes nothing.
 use Prim.Native.Nat.{ℕ}
-use mathlib.Core.Path.{_≡_, refl, ap, _∙_}
+use mathlib.Core.Path.{refl, ap, _∙_}
 use mathlib.Core.List.{List, []}
 use Rattle.isa.specs.Answers.{loadCall}
 use Rattle.isa.specs.declared.machine.State.{State}

@@ -1,7 +1,7 @@
 -- The level raised in the words' state, or a refusal.
 -- Assumes nothing.
 use Prim.Native.Nat.{ℕ}
-use mathlib.Core.Path.{_≡_, refl, ap, _∙_}
+use mathlib.Core.Path.{refl, ap, _∙_}
 use mathlib.Core.List.{List, []}
 use Rattle.isa.specs.Answers.{raiseCall}
 use Rattle.isa.specs.declared.machine.State.{State}

@@ -1,7 +1,7 @@
 -- A step of the words' state, or a refusal.
 -- Assumes nothing.
 use Prim.Native.Nat.{ℕ}
-use mathlib.Core.Path.{_≡_, ap, _∙_}
+use mathlib.Core.Path.{ap, _∙_}
 use mathlib.Core.List.{List, [], _∷_}
 use Rattle.isa.specs.Answers.{stepCall}
 use Rattle.isa.specs.declared.machine.State.{State}

@@ -14,8 +14,11 @@ enum-known-t c = search needs
 slice-aggregate-put-number : tie.Need-slice-aggregate-put-number
 slice-aggregate-put-number c = search needs
 
-number-of-requires : tie.Need-number-of-requires
-number-of-requires c κs = search needs
+refusal-number-requires : tie.Need-refusal-number-requires
+refusal-number-requires c κs = search needs
+
+cast-put-number : tie.Need-cast-put-number
+cast-put-number c = search needs
 
 put-number-requires : tie.Need-put-number-requires
 put-number-requires c κs = search needs
@@ -33,7 +36,7 @@ returns : tie.Need-returns
 returns c =
     let k = c .before .before in
     let number = k .before .before in
-    (omega (arith, k .put-number .ensures .0), k .put-number .ensures .1 ∙ ap (λ (n : ℕ). line (ascii "refused") (decimal n)) (number .number-of .ensures) ∙ ap textOf (sym (number .before .before .before .t .given .1)))
+    (omega (arith, k .put-number .ensures .0), k .put-number .ensures .1 ∙ ap (λ (n : ℕ). line (ascii "refused") (decimal n)) (number .refusal-number .ensures) ∙ ap textOf (sym (number .before .before .before .t .given .1)))
 
 same-length-2 : tie.Need-same-length-2
 same-length-2 c = search needs
@@ -49,7 +52,8 @@ put-turned-spec =
     (tie.spec
     enum-known-t
     slice-aggregate-put-number
-    number-of-requires
+    refusal-number-requires
+    cast-put-number
     put-number-requires
     enum-known-t-2
     put-end-requires

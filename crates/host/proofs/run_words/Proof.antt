@@ -1,16 +1,15 @@
 -- A run of the words' state, or a refusal.
 -- Assumes nothing.
 use Prim.Native.Nat.{ℕ}
-use mathlib.Core.Path.{_≡_, ap, _∙_}
-use mathlib.Core.Bool.{false}
+use mathlib.Core.Path.{ap, _∙_}
 use mathlib.Core.List.{List, [], _∷_}
 use Rattle.isa.specs.Answers.{runCall}
 use Rattle.isa.specs.declared.machine.State.{State}
 use Rattle.host.specs.Calls.{runEnd}
 use Rattle.host.proofs.Laws.{called-well, called-badly}
 use borrow.Author.Needs.{needs}
-use Rattle.host.proofs.nd110_run.Statement.{statement}
-use Rattle.host.proofs.nd110_run.Tie as tie
+use Rattle.host.proofs.run_words.Statement.{statement}
+use Rattle.host.proofs.run_words.Tie as tie
 
 returns : tie.Need-returns
 returns c = called-badly _ _ _ _ _ (c .if1 .taken)
@@ -18,8 +17,8 @@ returns c = called-badly _ _ _ _ _ (c .if1 .taken)
 state-in-requires : tie.Need-state-in-requires
 state-in-requires c κs = search needs
 
-through-requires : tie.Need-through-requires
-through-requires c κs = search needs
+run-by-requires : tie.Need-run-by-requires
+run-by-requires c κs = search needs
 
 tell-requires : tie.Need-tell-requires
 tell-requires c κs = search needs
@@ -40,18 +39,18 @@ returns-2 c =
     let a = entered .before .before .before .before .before .before .args in
     let w : List ℕ = a .state .now in
     let y : List ℕ = a .steps .now ∷ a .reason .now ∷ [] in
-    let same = ran .through .ensures ∙ ap (λ (s : State). runCall false (a .n) s (a .mem .now) (a .tables .now)) (entered .state-in .ensures) in
+    let same = ran .run-by .ensures ∙ ap (λ (s : State). runCall (a .first) (a .n) s (a .mem .now) (a .tables .now)) (entered .state-in .ensures) in
     c .before .before .tell .ensures _ _
     ∙ ap (runEnd w y) same
     ∙ called-well w _ _ y _ (entered .before .before .if1 .left)
 
-pub nd110-run-spec : {M : Type 1} → statement M
-nd110-run-spec =
+pub run-words-spec : {M : Type 1} → statement M
+run-words-spec =
     tie.close
     (tie.spec
     returns
     state-in-requires
-    through-requires
+    run-by-requires
     tell-requires
     same-length
     same-length-2

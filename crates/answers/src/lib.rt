@@ -1,7 +1,6 @@
-// Answers as numbers.
+// Answers as numbers, and the rest that they tell.
 ghost use mathlib.Core.Path.{_≡_};
 ghost use Rattle.isa.specs.Answers.{refusalNumber, answerNumber, stepNumber, interruptGiven, runNumber, stepsTaken, reasonNumber};
-ghost use Rattle.host.specs.Calls.{reasonGiven};
 use isa::answer::Answer;
 use isa::answer::Reason;
 use isa::answer::Refusal;
@@ -9,7 +8,7 @@ use isa::answer::RunAnswer;
 use isa::answer::StepAnswer;
 
 // Document 01's number of a refusal.
-fn refusal_number(r: Refusal) -> u16
+pub fn refusal_number(r: Refusal) -> u16
     ensures { λ n. ⌜ n ≡ refusalNumber r ⌝ }
 {
     match r {
@@ -74,7 +73,7 @@ pub fn steps_taken(a: RunAnswer) -> u64
 }
 
 // In the order of a run's tests.
-fn reason_number(w: Reason) -> u16
+pub fn reason_number(w: Reason) -> u16
     ensures { λ n. ⌜ n ≡ reasonNumber w ⌝ }
 {
     match w {
@@ -82,14 +81,5 @@ fn reason_number(w: Reason) -> u16
         Reason::Level => 1,
         Reason::Spent => 2,
         Reason::Interrupt => 3,
-    }
-}
-
-pub fn reason_given(a: RunAnswer) -> u16
-    ensures { λ n. ⌜ n ≡ reasonGiven a ⌝ }
-{
-    match a {
-        RunAnswer::Ran(_, w) => reason_number(w),
-        RunAnswer::Refused(_) => 0,
     }
 }
