@@ -18,7 +18,7 @@
  *
  * What cannot be seen, and is the caller's to ensure:
  *   - a place that is null, or that no longer holds words (dangling): it is read or written all the same. ND110_LENT(p, n) hands in the
- *     length 0 for a null pointer, which every function refuses; interrupt, steps and reason must not be null;
+ *     length 0 for a null pointer, which is refused wherever words are needed; interrupt, steps and reason must not be null;
  *   - a length greater than what is lent there: the call reads or writes past the end;
  *   - places that overlap, where the call writes one of them: each is taken to be alone. image and out are lent words too;
  *   - a place that is not aligned for a word;
