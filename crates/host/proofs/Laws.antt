@@ -6,7 +6,7 @@ use mathlib.Core.Bool.{Bool, cond}
 use mathlib.Core.List.{List, _++_, append-nil}
 use native.Mathlib.Omega.{arith}
 use native.Mathlib.Nat.{le-of-eq, zero-add}
-use lib.ListN.{length, take, drop, length-take, length-drop, drop-of-length-le}
+use lib.ListN.{length, take, drop, replicate, length-take, length-drop, length-replicate, drop-of-length-le}
 use lib.Seq.{paste, take-all}
 use borrow.Author.Tests.{eq-eqb, ne-eqb}
 use Rattle.isa.specs.Answers.{viewAnswer, viewedBy, viewed, targetOf}
@@ -26,6 +26,10 @@ put-front d w n h = (λ i. take-all n w (le-of-eq h) i ++ drop (zero-add n i) d)
 pub put-all : (d w : List ℕ) (n : ℕ) → length d ≡ n → length w ≡ n → paste d 0 w n ≡ w
 put-all d w n hd hw =
     put-front d w n hw ∙ ap (λ (x : List ℕ). w ++ x) (drop-of-length-le d {i = n} (le-of-eq hd)) ∙ append-nil w
+
+-- over as many words that are 0, all of them
+pub put-over : (n : ℕ) (w : List ℕ) → length w ≡ n → paste (replicate n 0) 0 w (length w) ≡ w
+put-over n w h = ap (paste (replicate n 0) 0 w) h ∙ put-all (replicate n 0) w n (length-replicate n 0) h
 
 -- the last n words
 pub rest-all : (a n : ℕ) (w : List ℕ) → length w ≡ a + n → take n (drop a w) ≡ drop a w

@@ -23,8 +23,8 @@ mod copying;
 mod entries;
 mod loading;
 mod parts;
-mod placing;
-mod writing;
+pub mod placing;
+pub mod writing;
 
 // A part of the lent memory or of the lent page tables; a refused view is empty.
 pub fn view<'a>(

@@ -58,7 +58,12 @@ pub fn fill(kind: u16, image: &[u16], target: &mut [u16])
 }
 
 // The state of registers and control words in image order.
-fn state_of(regs: [u16; 128], words: [u16; 26]) -> State
+// Registers and control words in image order.
+pub type RegisterWords = [u16; 128];
+
+pub type ControlWords = [u16; 26];
+
+pub fn state_of(regs: RegisterWords, words: ControlWords) -> State
     ensures { λ s. ⌜ s ≡ stateOf regs words ⌝ }
 {
     let mut pcrs = [0u16; 16];

@@ -80,7 +80,7 @@ fn put_memory(mem: &[u16], out: &mut [u16])
 }
 
 // Registers and control words, to the words of the output at `at`.
-fn put_state(s: State, out: &mut [u16], at: usize)
+pub fn put_state(s: State, out: &mut [u16], at: usize)
     requires { ⌜ at + 154 ≤ length (now out) ⌝ }
     ensures { λ _. ⌜ now (out .exit) ≡ paste (now (out .entry)) at (s .regs ++ controlWords s) 154 ⌝ }
 {
