@@ -4,8 +4,7 @@ use mathlib.Core.Path.{_≡_, refl, sym, ap, _∙_}
 use Rattle.isa.specs.Answers.{stateAnswer, steppedCall, stepCallBy, stepCall}
 use Rattle.isa.specs.declared.answer.Answer.{Answer}
 use Rattle.isa.specs.declared.answer.Answer.the-variants.{Done}
-use Rattle.image.proofs.Laws.{sizes-of, tables-all}
-use Rattle.nd110.proofs.Laws.{level-of}
+use Rattle.nd110.proofs.Laws.{run-needs}
 use borrow.Author.Needs.{needs}
 use Rattle.nd110.proofs.step.step.Statement.{statement}
 use Rattle.nd110.proofs.step.step.Tie as tie
@@ -17,11 +16,7 @@ enum-told : tie.Need-enum-told
 enum-told c = search needs
 
 run-requires : tie.Need-run-requires
-run-requires c κs =
-    let asked = c .before .before .before .before in
-    let a = asked .before .before .before .before .before .args in
-    let done : stateAnswer (a .s) (a .mem .now) (a .tables .now) ≡ Done = sym (asked .state-answer .ensures) ∙ c .before .before .enum-told .given .1 in
-    (level-of (a .s) (a .mem .now) (a .tables .now) done, tables-all (a .mem .now) (a .tables .now) (sizes-of (a .s) (a .mem .now) (a .tables .now) done))
+run-requires c κs = run-needs _ _ _ (sym (c .before .before .before .before .state-answer .ensures) ∙ c .before .before .enum-told .given .1)
 
 enum-known-a : tie.Need-enum-known-a
 enum-known-a c = search needs
