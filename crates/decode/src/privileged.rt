@@ -33,18 +33,14 @@ pub fn tra_of(n: u16) -> Instruction
     ensures { λ r. ⌜ r ≡ traOf n ⌝ }
 {
     match n {
-        0..=0 => Instruction::Illegal,
-        1..=1 => tra(Readable::Status),
-        2..=2 => Instruction::Illegal,
-        3..=3 => tra(Readable::Pgs),
-        4..=4 => tra(Readable::Pvl),
-        5..=5 => tra(Readable::Iic),
-        6..=6 => tra(Readable::Pid),
-        7..=7 => tra(Readable::Pie),
-        8..=8 => Instruction::Illegal,
-        9..=9 => tra(Readable::Actl),
-        10..=11 => Instruction::Illegal,
-        12..=12 => Instruction::Privileged(System::TraPgc),
+        1 => tra(Readable::Status),
+        3 => tra(Readable::Pgs),
+        4 => tra(Readable::Pvl),
+        5 => tra(Readable::Iic),
+        6 => tra(Readable::Pid),
+        7 => tra(Readable::Pie),
+        9 => tra(Readable::Actl),
+        12 => Instruction::Privileged(System::TraPgc),
         _ => Instruction::Illegal,
     }
 }
@@ -61,14 +57,11 @@ pub fn trr_of(n: u16) -> Instruction
     ensures { λ r. ⌜ r ≡ trrOf n ⌝ }
 {
     match n {
-        0..=0 => Instruction::Illegal,
-        1..=1 => trr(Writable::Status),
-        2..=2 => Instruction::Illegal,
-        3..=3 => Instruction::Privileged(System::TrrPcr),
-        4..=4 => Instruction::Illegal,
-        5..=5 => trr(Writable::Iie),
-        6..=6 => trr(Writable::Pid),
-        7..=7 => trr(Writable::Pie),
+        1 => trr(Writable::Status),
+        3 => Instruction::Privileged(System::TrrPcr),
+        5 => trr(Writable::Iie),
+        6 => trr(Writable::Pid),
+        7 => trr(Writable::Pie),
         _ => Instruction::Illegal,
     }
 }
@@ -85,11 +78,9 @@ pub fn mcl_of(n: u16) -> Instruction
     ensures { λ r. ⌜ r ≡ maskedOf Mcl n ⌝ }
 {
     match n {
-        0..=0 => Instruction::Illegal,
-        1..=1 => mcl(Maskable::Status),
-        2..=5 => Instruction::Illegal,
-        6..=6 => mcl(Maskable::Pid),
-        7..=7 => mcl(Maskable::Pie),
+        1 => mcl(Maskable::Status),
+        6 => mcl(Maskable::Pid),
+        7 => mcl(Maskable::Pie),
         _ => Instruction::Illegal,
     }
 }
@@ -106,11 +97,9 @@ pub fn mst_of(n: u16) -> Instruction
     ensures { λ r. ⌜ r ≡ maskedOf Mst n ⌝ }
 {
     match n {
-        0..=0 => Instruction::Illegal,
-        1..=1 => mst(Maskable::Status),
-        2..=5 => Instruction::Illegal,
-        6..=6 => mst(Maskable::Pid),
-        7..=7 => mst(Maskable::Pie),
+        1 => mst(Maskable::Status),
+        6 => mst(Maskable::Pid),
+        7 => mst(Maskable::Pie),
         _ => Instruction::Illegal,
     }
 }
@@ -120,20 +109,15 @@ pub fn switch_of(n: u16) -> Instruction
     ensures { λ r. ⌜ r ≡ switchOf n ⌝ }
 {
     match n {
-        0..=0 => Instruction::Illegal,
-        1..=1 => control(ControlOp::Iof),
-        2..=2 => control(ControlOp::Ion),
-        3..=3 => Instruction::Illegal,
-        4..=4 => control(ControlOp::Pof),
-        5..=5 => control(ControlOp::Piof),
-        6..=7 => Instruction::Illegal,
-        8..=8 => control(ControlOp::Pon),
-        9..=9 => Instruction::Illegal,
-        10..=10 => control(ControlOp::Pion),
-        11..=12 => Instruction::Illegal,
-        13..=13 => Instruction::Privileged(System::Ioxt),
-        14..=14 => Instruction::Privileged(System::Exam),
-        15..=15 => Instruction::Privileged(System::Depo),
+        1 => control(ControlOp::Iof),
+        2 => control(ControlOp::Ion),
+        4 => control(ControlOp::Pof),
+        5 => control(ControlOp::Piof),
+        8 => control(ControlOp::Pon),
+        10 => control(ControlOp::Pion),
+        13 => Instruction::Privileged(System::Ioxt),
+        14 => Instruction::Privileged(System::Exam),
+        15 => Instruction::Privileged(System::Depo),
         _ => Instruction::Illegal,
     }
 }

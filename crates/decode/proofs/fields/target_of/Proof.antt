@@ -1,23 +1,21 @@
--- Each value is a row of the table, the last what is left.
+-- Each number is in a row of the table, and `_` stands for the rest.
 -- Assumes nothing.
-use Prim.Native.Nat.{zero-le}
-use native.Mathlib.Omega.{arith}
 use mathlib.Core.Path.{refl}
-use Rattle.decode.proofs.Laws.{row, beyond, past}
+use Rattle.decode.proofs.Laws.{needs, last}
 use Rattle.decode.proofs.fields.target_of.Statement.{statement}
 use Rattle.decode.proofs.fields.target_of.Tie as tie
 
 returns : tie.Need-returns
-returns c = row 0 0 _ _ _ refl refl (omega arith) (omega arith)
+returns c = search needs
 
 returns-2 : tie.Need-returns-2
-returns-2 c = row 1 1 _ _ _ refl refl (omega arith) (omega arith)
+returns-2 c = search needs
 
 returns-3 : tie.Need-returns-3
-returns-3 c = row 2 2 _ _ _ refl refl (omega arith) (omega arith)
+returns-3 c = search needs
 
 returns-4 : tie.Need-returns-4
-returns-4 c = beyond 3 _ _ _ refl (past _ 0 3 _ zero-le (c .match .rest))
+returns-4 c = last 3 _ _ _ _ refl refl (c .match .rest)
 
 pub target-of-spec : {M : Type 1} → statement M
 target-of-spec = tie.close (tie.spec returns returns-2 returns-3 returns-4)
