@@ -1,7 +1,7 @@
 //! The proved engine and the second engine on one image: runs, single steps, load and write; and how a run's time grows.
 mod image;
 
-use image::Image;
+use image::image;
 use second::State;
 use std::time::Instant;
 
@@ -58,24 +58,13 @@ struct Left {
     seconds: f64,
 }
 
-/// The image with so many pages of memory.
-fn start(pages: usize) -> Image {
-    let mut image = image::image();
-    image.memory.resize(pages * 1024, 0);
-    image
-}
-
 /// A run through, or as many calls of the step.
 fn ours(pages: usize, n: u64, single: bool) -> Left {
-    let image = start(pages);
-    let mut words = image.state.to_words().to_vec();
-    let (mut memory, mut tables) = (image.memory, image.tables);
+    let start = image(pages);
+    let mut words = start.state.to_words().to_vec();
+    let (mut memory, mut tables) = (start.memory, start.tables);
     let (mut taken, mut reason, mut interrupt) = (0u64, 0u16, 0u16);
-    let (s, m, t) = (
-        words.as_mut_ptr(),
-        memory.as_mut_ptr(),
-        tables.as_mut_ptr(),
-    );
+    let (s, m, t) = (words.as_mut_ptr(), memory.as_mut_ptr(), tables.as_mut_ptr());
     let began = Instant::now();
     // SAFETY: each pointer is lent with its own length.
     let refused = unsafe {
@@ -84,17 +73,7 @@ fn ours(pages: usize, n: u64, single: bool) -> Left {
                 .map(|_| nd110_step(s, 154, m, memory.len(), t, 256, &mut interrupt))
                 .sum()
         } else {
-            nd110_run(
-                s,
-                154,
-                m,
-                memory.len(),
-                t,
-                256,
-                n,
-                &mut taken,
-                &mut reason,
-            )
+            nd110_run(s, 154, m, memory.len(), t, 256, n, &mut taken, &mut reason)
         }
     };
     let seconds = began.elapsed().as_secs_f64();
@@ -109,9 +88,9 @@ fn ours(pages: usize, n: u64, single: bool) -> Left {
 }
 
 fn rust(pages: usize, n: u64, single: bool) -> Left {
-    let image = start(pages);
-    let mut state: State = image.state;
-    let (mut memory, mut tables) = (image.memory, image.tables);
+    let start = image(pages);
+    let mut state: State = start.state;
+    let (mut memory, mut tables) = (start.memory, start.tables);
     let began = Instant::now();
     if single {
         for _ in 0..n {
@@ -131,9 +110,9 @@ fn rust(pages: usize, n: u64, single: bool) -> Left {
 
 /// Write and load `n` times over.
 fn our_images(pages: usize, n: u64) -> Left {
-    let image = start(pages);
-    let mut words = image.state.to_words().to_vec();
-    let (mut memory, mut tables) = (image.memory, image.tables);
+    let start = image(pages);
+    let mut words = start.state.to_words().to_vec();
+    let (mut memory, mut tables) = (start.memory, start.tables);
     let mut out = vec![0u16; memory.len() + second::IMAGE_EXTRA];
     let began = Instant::now();
     for _ in 0..n {
@@ -171,9 +150,9 @@ fn our_images(pages: usize, n: u64) -> Left {
 }
 
 fn rust_images(pages: usize, n: u64) -> Left {
-    let image = start(pages);
-    let mut state = image.state;
-    let (mut memory, mut tables) = (image.memory, image.tables);
+    let start = image(pages);
+    let mut state = start.state;
+    let (mut memory, mut tables) = (start.memory, start.tables);
     let mut out = vec![0u16; memory.len() + second::IMAGE_EXTRA];
     let began = Instant::now();
     for _ in 0..n {

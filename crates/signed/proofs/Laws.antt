@@ -1,12 +1,13 @@
 -- Two's complement as the code computes it: `toZ w n` are the bits n read at the width w, `ofZ w z` the bits of z there.
 -- Assumes nothing.
-use Prim.Native.Nat.{ℕ, suc, _-_, _^_, _<_, _≤_, zero-le}
+use Prim.Native.Nat.{ℕ, suc, _+_, _-_, _*_, _^_, _<_, _≤_, zero-le}
 use native.Mathlib.Nat.{mod-eq-of-lt}
+use native.Mathlib.Decide.{decLt}
 use native.Mathlib.Omega.{arith}
 use mathlib.Core.Path.{_≡_, sym, ap, _∙_, subst}
-use mathlib.Core.Bool.{true, false}
-use lib.Dec.{T}
-use lib.IntN.{ℤ, pos, negsuc, natAbs, _+ℤ_, _-ℤ_}
+use mathlib.Core.Bool.{Bool, true, false, cond}
+use lib.Dec.{T, ltb}
+use lib.IntN.{ℤ, pos, negsuc, natAbs, subℕ, _+ℤ_, _-ℤ_}
 use lib.Signed.{leZ, nonNeg}
 use borrow.Author.Tests.{lt-ltb, le-ltb, le-leb}
 use mir.Syntax.{Width, w16, w32}
@@ -17,26 +18,44 @@ use Rattle.isa.specs.Flags.{signedOf, bitsOf}
 use Rattle.isa.proofs.Signed.{bits-below}
 use Rattle.isa.proofs.Tests.{no-both}
 
--- a field n of k bits, computed at a width w
-module _ (w : Width) (k n : ℕ) (h : n < 2 ^ hbits w) where
-  -- with the sign bit clear it is n
-  pub sign-clear : n < 2 ^ (k - 1) → toZ w n ≡ signedOf k n
-  sign-clear l = toZ-pos w n h ∙ simp (lt-ltb n (2 ^ (k - 1)) l)
+-- A field n whose sign bit weighs half = m + 1, made half larger within the field: q. Half less is what n means.
+module _ (m n q : ℕ) (b : n < 2 * suc m) (f : q < 32768) (low : n < suc m → q ≡ n + suc m) (high : suc m ≤ n → q + suc m ≡ n) where
+  pub centred : toZ w16 q -ℤ pos (suc m) ≡ cond (ltb n (suc m)) (pos n) (negsuc (2 * suc m - suc n))
+  centred = ap (λ (z : ℤ). z -ℤ pos (suc m)) (toZ-pos w16 q f) ∙ go (decLt n (suc m))
+    where
+      go : Dec (n < suc m) → subℕ q (suc m) ≡ cond (ltb n (suc m)) (pos n) (negsuc (2 * suc m - suc n))
+      go (yes l) =
+          let e : q ≡ n + suc m = low l in
+          let k : suc m ≤ q = omega arith in
+          let d : q - suc m ≡ n = omega arith in
+          simp (lt-ltb n (suc m) l, le-ltb q (suc m) k, d)
+      go (no l) =
+          let h : suc m ≤ n = omega arith in
+          let e : q + suc m ≡ n = high h in
+          let k : q < suc m = omega arith in
+          let d : suc m - suc q ≡ 2 * suc m - suc n = omega arith in
+          simp (le-ltb n (suc m) h, lt-ltb q (suc m) k) (ap negsuc d)
 
-  module _ (m : ℕ) (e : 2 ^ k ≡ suc m) (b : n < 2 ^ k) where
-    -- 2 ^ k less is negative
-    pub lowered : toZ w n -ℤ pos (suc m) ≡ negsuc (2 ^ k - suc n)
-    lowered =
-        let l : n < suc m = omega arith in
-        ap (λ (z : ℤ). z -ℤ pos (suc m)) (toZ-pos w n h) ∙ simp (lt-ltb n (suc m) l, e)
+  pub centred-fits : suc m ≤ 32768 → SFits w16 (toZ w16 q -ℤ pos (suc m))
+  centred-fits h = subst (SFits w16) (sym centred) (go (decLt n (suc m)))
+    where
+      go : Dec (n < suc m) → SFits w16 (cond (ltb n (suc m)) (pos n) (negsuc (2 * suc m - suc n)))
+      go (yes l) = subst (λ (t : Bool). SFits w16 (cond t (pos n) (negsuc (2 * suc m - suc n)))) (sym (lt-ltb n (suc m) l)) (record { sfits = omega arith })
+      go (no l) = subst (λ (t : Bool). SFits w16 (cond t (pos n) (negsuc (2 * suc m - suc n)))) (sym (le-ltb n (suc m) (omega arith))) (record { sfits = omega arith })
 
-    -- with the sign bit set it is 2 ^ k less
-    pub sign-set : 2 ^ (k - 1) ≤ n → toZ w n -ℤ pos (suc m) ≡ signedOf k n
-    sign-set s = lowered ∙ simp (le-ltb n (2 ^ (k - 1)) s)
+-- a word n, computed at a wider width w
+module _ (w : Width) (n : ℕ) (h : n < 2 ^ hbits w) (b : n < 65536) where
+  -- 2 ^ 16 less is negative
+  lowered : toZ w n -ℤ pos 65536 ≡ negsuc (65536 - suc n)
+  lowered = ap (λ (z : ℤ). z -ℤ pos 65536) (toZ-pos w n h) ∙ simp (lt-ltb n 65536 b)
 
-    -- .. which fits any width that holds -2 ^ (k - 1)
-    pub sign-fits : (v : Width) → 2 ^ k - suc n < 2 ^ hbits v → SFits v (toZ w n -ℤ pos (suc m))
-    sign-fits v f = subst (SFits v) (sym lowered) (record { sfits = f })
+  -- with the sign bit set it is that
+  pub sign-set : 32768 ≤ n → toZ w n -ℤ pos 65536 ≡ signedOf 16 n
+  sign-set s = lowered ∙ simp (le-ltb n 32768 s)
+
+  -- .. which fits any width that holds it
+  pub sign-fits : (v : Width) → 65536 - suc n < 2 ^ hbits v → SFits v (toZ w n -ℤ pos 65536)
+  sign-fits v f = subst (SFits v) (sym lowered) (record { sfits = f })
 
 -- a number that went through its word
 pub through : (z : ℤ) → SFits w16 z → SFits w16 (toZ w16 (ofZ w16 z))

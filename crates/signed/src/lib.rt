@@ -9,22 +9,14 @@ use isa::instruction::Relation;
 pub fn displacement(w: u16) -> i16
     ensures { λ r. ⌜ r ≡ displacementOf w ⌝ }
 {
-    let d = w % 256;
-    if d < 128 {
-        return d as i16;
-    }
-    (d as i16) - 256
+    ((w % 256 + 128) % 256) as i16 - 128
 }
 
 // The shift count in bits 5-0, -32 to 31.
 pub fn count(w: u16) -> i16
     ensures { λ r. ⌜ r ≡ countOf w ⌝ }
 {
-    let n = w % 64;
-    if n < 32 {
-        return n as i16;
-    }
-    (n as i16) - 64
+    ((w % 64 + 32) % 64) as i16 - 32
 }
 
 // A word read in two's complement.

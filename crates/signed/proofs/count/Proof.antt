@@ -1,31 +1,30 @@
--- The low 6 bits, by the sign bit.
+-- The low 6 bits, made half larger and half less.
 -- Assumes nothing.
-use Prim.Native.Nat.{_%_}
+use Prim.Native.Nat.{_+_, _%_}
 use native.Mathlib.Omega.{arith}
-use mathlib.Core.Path.{refl, _∙_}
+use mathlib.Core.Path.{_∙_}
 use borrow.Author.Needs.{needs}
 use mir.Syntax.{w16}
 use mir.ValLaws.{toZ-ofZ}
-use Rattle.signed.proofs.Laws.{sign-clear, sign-set, sign-fits}
+use Rattle.signed.proofs.Laws.{centred, centred-fits}
 use Rattle.signed.proofs.count.Statement.{statement}
 use Rattle.signed.proofs.count.Tie as tie
+
+add-result : tie.Need-add-result
+add-result c = search needs
 
 cast-result : tie.Need-cast-result
 cast-result c = search needs
 
-cast-result-2 : tie.Need-cast-result-2
-cast-result-2 c = search needs
-
 sub-result : tie.Need-sub-result
-sub-result c = sign-fits w16 6 (c .before .args .w % 64) (omega arith) 63 refl (omega arith) w16 (omega arith)
+sub-result c =
+    let n = c .args .w % 64 in
+    centred-fits 31 n ((n + 32) % 64) (omega arith) (omega arith) (λ l. omega arith) (λ l. omega arith) (omega arith)
 
 returns : tie.Need-returns
-returns c = sign-clear w16 6 (c .before .args .w % 64) (omega arith) (omega arith)
-
-returns-2 : tie.Need-returns-2
-returns-2 c =
-    toZ-ofZ w16 _ (sub-result c)
-    ∙ sign-set w16 6 (c .before .args .w % 64) (omega arith) 63 refl (omega arith) (omega arith)
+returns c =
+    let n = c .args .w % 64 in
+    toZ-ofZ w16 _ (sub-result c) ∙ centred 31 n ((n + 32) % 64) (omega arith) (omega arith) (λ l. omega arith) (λ l. omega arith)
 
 pub count-spec : {M : Type 1} → statement M
-count-spec = tie.close (tie.spec cast-result returns cast-result-2 sub-result returns-2)
+count-spec = tie.close (tie.spec add-result cast-result sub-result returns)

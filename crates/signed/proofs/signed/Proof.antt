@@ -20,19 +20,19 @@ cast-result-2 : tie.Need-cast-result-2
 cast-result-2 c = search needs
 
 sub-result : tie.Need-sub-result
-sub-result c = sign-fits w32 16 (c .before .args .w) (omega arith) 65535 refl (omega arith) w32 (omega arith)
+sub-result c = sign-fits w32 (c .before .args .w) (omega arith) (omega arith) w32 (omega arith)
 
 cast-result-3 : tie.Need-cast-result-3
 cast-result-3 c =
     subst (SFits w16)
     (sym (toZ-ofZ w32 _ (sub-result c)))
-    (sign-fits w32 16 (c .before .args .w) (omega arith) 65535 refl (omega arith) w16 (omega arith))
+    (sign-fits w32 (c .before .args .w) (omega arith) (omega arith) w16 (omega arith))
 
 returns-2 : tie.Need-returns-2
 returns-2 c =
     toZ-ofZ w16 _ (cast-result-3 c)
     ∙ toZ-ofZ w32 _ (sub-result c)
-    ∙ sign-set w32 16 (c .before .args .w) (omega arith) 65535 refl (omega arith) (omega arith)
+    ∙ sign-set w32 (c .before .args .w) (omega arith) (omega arith) (omega arith)
 
 pub signed-spec : {M : Type 1} → statement M
 signed-spec =
