@@ -6,12 +6,13 @@ use mathlib.Core.Bool.{Bool, true, false, cond}
 use mathlib.Core.Logic.{_⊎_, inl, inr}
 use mathlib.Core.List.{List, [], _∷_}
 use native.Mathlib.Omega.{arith}
+use borrow.Author.Needs.{needs as usual}
 use lib.IntN.{ℤ}
 use lib.ListN.{getD, take}
 use Rattle.isa.proofs.Tests.{no-both}
 use Rattle.execute.proofs.Laws.{same, same-after, other}
 use Rattle.isa.specs.Machine.{reg, withReg, next}
-use Rattle.isa.specs.Address.{access, firstAddress, firstRule, effectiveAddress, indirectAccess, byteAddress}
+use Rattle.isa.specs.Address.{addressRule, access, firstAddress, firstRule, effectiveAddress, indirectAccess, byteAddress}
 use Rattle.isa.specs.Instructions.{complete, memoryRequest, memoryCompletion, loads, storing, loadedByte, storedByte}
 use Rattle.isa.specs.declared.access.Kind.the-variants.{Indirect}
 use Rattle.isa.specs.declared.machine.File.{File}
@@ -27,6 +28,19 @@ use Rattle.operands.specs.Addresses.{firstAt, hasIndirect, afterIndirect
 use Rattle.operands.specs.Requests.{byteLoaded, requestOf, accessesOf, isIdle, isRead, isWrite, wordLoaded, wordStored, jumpTaken, wordsLoaded, wordsStored}
 use Rattle.operands.specs.declared.request.Request.{Request}
 use Rattle.operands.specs.declared.request.Request.the-variants.{Idle, Read, Write, ReadMore, WriteMore, Update}
+
+-- What `search` is handed in this crate: what it always is, and that a match over operations or modes gives what a definition has for
+-- the one that is met.
+pub asked : (o k : MemoryOp) (r : Request) → o ≡ k → r ≡ requestOf k → r ≡ requestOf o
+asked o k r p q = q ∙ ap requestOf (sym p)
+
+pub ruled : (m k : Mode) (b : Bool) → m ≡ k → b ≡ addressRule k → b ≡ addressRule m
+ruled m k b p q = q ∙ ap addressRule (sym p)
+
+pub written : (o k : MemoryOp) (f : File) (w : ℕ) → o ≡ k → w ≡ wordStored k f → w ≡ wordStored o f
+written o k f w p q = q ∙ ap (λ (x : MemoryOp). wordStored x f) (sym p)
+
+pub ruleset needs = (usual, asked, ruled, written)
 
 -- P one further leaves B, A, T and X
 other-b : (f : File) → getD (next f .words) 3 0 ≡ getD (f .words) 3 0

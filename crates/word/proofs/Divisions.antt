@@ -24,7 +24,7 @@ quotient-size (negsuc a) (pos b) = omega (arith, negated-size (suc a / b), div-l
 quotient-size (negsuc a) (negsuc b) = omega (arith, div-le-self (suc a) (suc b))
 
 -- a divisor other than 0 is held by bits other than 0
-pub divisor-some : (d : ℕ) (z : ℤ) → z ≡ signedOf 16 d → 0 < d → d < 65536 → 0 < ofZ w64 z
+divisor-some : (d : ℕ) (z : ℤ) → z ≡ signedOf 16 d → 0 < d → d < 65536 → 0 < ofZ w64 z
 divisor-some d z e p l = subst (λ (x : ℤ). 0 < ofZ w64 x) (sym e) (go (ltb d 32768))
   where
     go : (t : Bool) → 0 < ofZ w64 (cond t (pos d) (negsuc (65536 - suc d)))
@@ -83,8 +83,12 @@ module _ (n d : ℕ) (x y : ℤ) (hn : n < 4294967296) (hd : d < 65536) (ex : x 
   remainder-small : mag (remZ x y) < 2 ^ 63
   remainder-small = omega (arith, mag-rem x y, mx)
 
-  pub quotient-fits : SFits w64 (quotZ (toZ w64 (ofZ w64 x)) (toZ w64 (ofZ w64 y)))
+  quotient-fits : SFits w64 (quotZ (toZ w64 (ofZ w64 x)) (toZ w64 (ofZ w64 y)))
   quotient-fits = result-fits quotZ x y (omega (arith, mx)) (omega (arith, my)) quotient-small
+
+  -- what division asks: a divisor other than 0, and room for the quotient
+  pub divides : 0 < d → (0 < ofZ w64 y) × SFits w64 (quotZ (toZ w64 (ofZ w64 x)) (toZ w64 (ofZ w64 y)))
+  divides p = (divisor-some d y ey p hd, quotient-fits)
 
   pub quotient-read : toZ w64 (ofZ w64 (quotZ (toZ w64 (ofZ w64 x)) (toZ w64 (ofZ w64 y)))) ≡ quotient n d
   quotient-read =

@@ -1,6 +1,6 @@
 -- The rule of each mode.
 -- Assumes nothing.
-use borrow.Author.Needs.{needs}
+use Rattle.operands.proofs.Laws.{needs}
 use Rattle.operands.proofs.address.address_rule.Statement.{statement}
 use Rattle.operands.proofs.address.address_rule.Tie as tie
 
@@ -29,28 +29,28 @@ enum-told-8 : tie.Need-enum-told-8
 enum-told-8 c = search needs
 
 returns : tie.Need-returns
-returns c = simp (c .enum-told .given .1)
+returns c = search needs
 
 returns-2 : tie.Need-returns-2
-returns-2 c = simp (c .enum-told2 .given .1)
+returns-2 c = search needs
 
 returns-3 : tie.Need-returns-3
-returns-3 c = simp (c .enum-told3 .given .1)
+returns-3 c = search needs
 
 returns-4 : tie.Need-returns-4
-returns-4 c = simp (c .enum-told4 .given .1)
+returns-4 c = search needs
 
 returns-5 : tie.Need-returns-5
-returns-5 c = simp (c .enum-told5 .given .1)
+returns-5 c = search needs
 
 returns-6 : tie.Need-returns-6
-returns-6 c = simp (c .enum-told6 .given .1)
+returns-6 c = search needs
 
 returns-7 : tie.Need-returns-7
-returns-7 c = simp (c .enum-told7 .given .1)
+returns-7 c = search needs
 
 returns-8 : tie.Need-returns-8
-returns-8 c = simp (c .enum-told8 .given .1)
+returns-8 c = search needs
 
 pub address-rule-spec : {M : Type 1} → statement M
 address-rule-spec =

@@ -1,7 +1,7 @@
 -- The divisor is not 0, and the remainder is no larger than the dividend.
 -- Assumes nothing.
 use borrow.Author.Needs.{needs}
-use Rattle.word.proofs.Divisions.{divisor-some, quotient-fits, remainder-read}
+use Rattle.word.proofs.Divisions.{divides, remainder-read}
 use Rattle.word.proofs.quotient.signed_remainder.Statement.{statement}
 use Rattle.word.proofs.quotient.signed_remainder.Tie as tie
 
@@ -13,19 +13,13 @@ signed-requires c κs = search needs
 
 rem-result : tie.Need-rem-result
 rem-result c =
-    let start = c .before .before in (
-      divisor-some (start .args .d) (c .signed .result) (c .signed .ensures) (start .pre)
-          (start .fits .d .fits),
-      quotient-fits (start .args .n) (start .args .d) (c .before .signed-double .result)
-          (c .signed .result) (start .fits .n .fits) (start .fits .d .fits) (c .before .signed-double .ensures)
-          (c .signed .ensures),
-    )
+    let start = c .before .before in
+    divides _ _ _ _ (start .fits .n .fits) (start .fits .d .fits) (c .before .signed-double .ensures) (c .signed .ensures) (start .pre)
 
 returns : tie.Need-returns
 returns c =
     let start = c .before .before in
-    remainder-read (start .args .n) (start .args .d) (c .before .signed-double .result) (c .signed .result)
-    (start .fits .n .fits) (start .fits .d .fits) (c .before .signed-double .ensures) (c .signed .ensures)
+    remainder-read _ _ _ _ (start .fits .n .fits) (start .fits .d .fits) (c .before .signed-double .ensures) (c .signed .ensures)
 
 pub signed-remainder-spec : {M : Type 1} → statement M
 signed-remainder-spec =
