@@ -4,8 +4,8 @@ ghost use Prim.Native.Nat.{_+_, _≤_};
 ghost use lib.ListN.{length};
 ghost use lib.Seq.{paste};
 ghost use Rattle.host.specs.Calls.{stateIn, wordsOf};
-use image::placing::state_of;
 use isa::machine::State;
+use placing::state_of;
 
 // All words of `from`, to those of `to` at `at`.
 pub(crate) fn put(to: &mut [u16], at: usize, from: &[u16])
@@ -36,5 +36,5 @@ pub(crate) fn put_state(s: State, words: &mut [u16])
     requires { ⌜ length (now words) ≡ 154 ⌝ }
     ensures { λ _. ⌜ now (words .exit) ≡ wordsOf s ⌝ }
 {
-    image::writing::put_state(s, words, 0);
+    writing::put_state(s, words, 0);
 }

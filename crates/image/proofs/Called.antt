@@ -15,11 +15,14 @@ use Rattle.isa.specs.declared.machine.State.{State}
 use Rattle.isa.specs.declared.answer.Refusal.the-variants.{Sizes, Contents, Kind, Target, Bodies}
 use Rattle.isa.specs.declared.answer.Answer.{Answer}
 use Rattle.isa.specs.declared.answer.Answer.the-variants.{Done, Refused}
+use Rattle.state.specs.Answers.{firstOf}
+use Rattle.state.proofs.Passed.{refused-not-done, tables-all}
+use Rattle.listing.specs.Listing.{targetAnswer, overlapAnswer, entryAnswer, bodyAnswer, listAnswer}
+use Rattle.entries.proofs.Entries.{contents-some, contents-whole}
+use Rattle.listing.proofs.Listed.{entries-split}
+use Rattle.placing.specs.Placing.{Inside, Placeable}
 use Rattle.image.specs.declared.Loaded.{Loaded}
-use Rattle.image.specs.Answers.{firstOf, byAnswer}
-use Rattle.image.specs.Loading.{targetAnswer, overlapAnswer, entryAnswer, bodyAnswer, listAnswer, imageAnswer, rangeAnswer, Inside, Placeable, callOf}
-use Rattle.image.proofs.Laws.{refused-not-done, tables-all}
-use Rattle.image.proofs.Listed.{contents-some, contents-whole, entries-split}
+use Rattle.image.specs.Loading.{imageAnswer, rangeAnswer, callOf, byAnswer}
 
 -- ---- what may be stored
 

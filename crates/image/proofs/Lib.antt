@@ -1,5 +1,1 @@
-pub mod Laws
-pub mod Written
-pub mod Listed
-pub mod Placed
 pub mod Called

@@ -1,4 +1,1 @@
-pub mod Answers
-pub mod Parts
-pub mod Writing
 pub mod Loading

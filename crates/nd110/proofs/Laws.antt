@@ -10,7 +10,7 @@ use borrow.Author.Tests.{ltb-true}
 use Rattle.isa.specs.Machine.{inRange, sizesFit, controlInRange, allPcrBits, flagsFit}
 use Rattle.isa.specs.Answers.{stateAnswer, levelAnswer, deviceLevel}
 use Rattle.isa.proofs.Tests.{and-left}
-use Rattle.image.proofs.Laws.{sizes-of, tables-all}
+use Rattle.state.proofs.Passed.{sizes-of, tables-all}
 use Rattle.isa.specs.declared.answer.Answer.{Answer}
 use Rattle.isa.specs.declared.answer.Answer.the-variants.{Done, Refused}
 use Rattle.isa.specs.declared.answer.Refusal.the-variants.{Sizes, State as StateRange, RaiseLevel}

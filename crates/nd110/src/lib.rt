@@ -25,7 +25,7 @@ pub fn write(s: State, mem: &[u16], tables: &[u16], out: &mut [u16]) -> Answer
     ensures { λ r. ⌜ r ≡ writeAnswer s (now (mem .entry)) (now (tables .entry)) (now (out .entry)) ⌝ }
     ensures { λ r. ⌜ now (out .exit) ≡ writtenOutput s (now (mem .entry)) (now (tables .entry)) (now (out .entry)) ⌝ }
 {
-    image::write(s, mem, tables, out)
+    writing::write(s, mem, tables, out)
 }
 
 // A part of the lent memory or of the lent page tables; a refused view is empty.
@@ -38,12 +38,12 @@ pub fn view<'a>(
 ) -> &'a [u16]
     ensures { λ r. ⌜ now r ≡ viewed kind start len (now (mem .entry)) (now (tables .entry)) ⌝ }
 {
-    image::view(kind, start, len, mem, tables)
+    views::view(kind, start, len, mem, tables)
 }
 
 // The call beside it, which tells the view's number. Refusals 1 and 9.
 pub fn view_answer(kind: Target, start: usize, len: usize, mem: &[u16], tables: &[u16]) -> Answer
     ensures { λ r. ⌜ r ≡ viewAnswer kind start len (now (mem .entry)) (now (tables .entry)) ⌝ }
 {
-    image::view_answer(kind, start, len, mem, tables)
+    views::view_answer(kind, start, len, mem, tables)
 }

@@ -9,6 +9,8 @@ use isa::answer::Refusal;
 use isa::machine::Control;
 use isa::machine::State;
 
+pub mod answers;
+
 // Pages of 1,024 words, at least one, at most 524,288 words.
 fn memory_size(n: usize) -> bool
     ensures { λ r. ⌜ r ≡ memorySize n ⌝ }

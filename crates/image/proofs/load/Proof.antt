@@ -2,7 +2,7 @@
 -- Assumes nothing.
 use mathlib.Core.Path.{ap, sym, _∙_}
 use borrow.Author.Needs.{needs}
-use Rattle.image.specs.Answers.{firstOf}
+use Rattle.state.specs.Answers.{firstOf}
 use Rattle.image.proofs.Called.{placeable, placeable-tables, first-done, load-is}
 use Rattle.image.proofs.load.Statement.{statement}
 use Rattle.image.proofs.load.Tie as tie

@@ -1,0 +1,28 @@
+-- Refusal 4.
+-- Assumes nothing.
+use borrow.Author.Needs.{needs}
+use Rattle.entries.proofs.Entries.{contents-empty, contents-over, contents-rest}
+use Rattle.entries.proofs.contents_fit.Statement.{statement}
+use Rattle.entries.proofs.contents_fit.Tie as tie
+
+returns : tie.Need-returns
+returns c = contents-empty _ (c .if1 .taken)
+
+entry-count-requires : tie.Need-entry-count-requires
+entry-count-requires c κs = search needs
+
+returns-2 : tie.Need-returns-2
+returns-2 c = contents-over _ _ (c .before .before .if1 .left) (c .before .entry-count .ensures) (c .if2 .taken)
+
+mul-result : tie.Need-mul-result
+mul-result c = search needs
+
+add-result : tie.Need-add-result
+add-result c = search needs
+
+returns-3 : tie.Need-returns-3
+returns-3 c = contents-rest _ _ (c .before .before .if1 .left) (c .before .entry-count .ensures) (c .if2 .left)
+
+pub contents-fit-spec : {M : Type 1} → statement M
+contents-fit-spec =
+    tie.close (tie.spec returns entry-count-requires returns-2 mul-result add-result returns-3)

@@ -1,0 +1,49 @@
+-- Refusals 5 to 8.
+-- Assumes nothing.
+use Prim.Native.Nat.{ℕ, _*_, _+_, _≤_}
+use mathlib.Core.List.{[]}
+use mathlib.Core.Path.{ap, subst, sym, _∙_}
+use lib.ListN.{length, drop}
+use borrow.Author.Needs.{needs}
+use Rattle.entries.proofs.Entries.{contents-some, contents-few, contents-whole}
+use Rattle.listing.specs.Listing.{listAnswer, bodyAnswer}
+use Rattle.state.specs.Answers.{firstOf}
+use Rattle.isa.specs.Images.{entriesOf, entriesAnswer}
+use Rattle.listing.proofs.list_answer.Statement.{statement}
+use Rattle.listing.proofs.list_answer.Tie as tie
+
+entry-count-requires : tie.Need-entry-count-requires
+entry-count-requires c κs = contents-some _ (c .before .pre)
+
+entries-answer-requires : tie.Need-entries-answer-requires
+entries-answer-requires c κs =
+    let k = c .before .before in
+    subst (λ (n : ℕ). n * 5 + 1 ≤ length (k .args .image .now)) (sym (c .entry-count .ensures)) (contents-whole _ (k .pre))
+
+body-answer-requires : tie.Need-body-answer-requires
+body-answer-requires c κs =
+    let k = c .before .before .before in
+    let e = c .before .entry-count .ensures in
+    (subst (λ (n : ℕ). n * 5 + 1 ≤ length (k .args .image .now)) (sym e) (contents-whole _ (k .pre)), subst (λ (n : ℕ). n ≤ 32) (sym e) (contents-few _ (k .pre)))
+
+first-requires : tie.Need-first-requires
+first-requires c κs = search needs
+
+returns : tie.Need-returns
+unfolding listAnswer
+returns c =
+    let k = c .before .before .before in
+    let a = k .before .before .args in
+    c .first .ensures
+    ∙ (λ i. firstOf (c .before .before .entries-answer .ensures i) (c .before .body-answer .ensures i))
+    ∙ ap (λ (n : ℕ). firstOf (entriesAnswer (a .words) [] (entriesOf n (drop 1 (a .image .now)))) (bodyAnswer n (a .image .now))) (k .entry-count .ensures)
+
+pub list-answer-spec : {M : Type 1} → statement M
+list-answer-spec =
+    tie.close
+    (tie.spec
+    entry-count-requires
+    entries-answer-requires
+    body-answer-requires
+    first-requires
+    returns)
