@@ -17,8 +17,9 @@ use Rattle.event.specs.Events.{eventPart}
 use Rattle.event.specs.declared.Event.{Event}
 use Rattle.event.specs.declared.Event.the-variants.{Fine}
 use Rattle.execute.specs.Effects.{fileOf, applied}
-use Rattle.stages.specs.Stages.{coreOf, QuickStep}
-use Rattle.stages.specs.declared.step.Quick.{Quick}
+use Rattle.stages.specs.Stages.{coreOf}
+use Rattle.step.specs.Steps.{QuickStep}
+use Rattle.step.specs.declared.Quick.{Quick}
 use Rattle.run.specs.Runs.{Levels, Executes, leaves, goesOn, QuietSteps, QuietStep}
 use Rattle.run.specs.declared.burst.Burst.{Burst}
 use Rattle.run.proofs.Laws.{one-step, runs-on, goes-on, fine-leaves, no-change}

@@ -9,7 +9,7 @@ use event::Event;
 use execute::effect::Effect;
 use isa::machine::File;
 use isa::machine::Registers;
-use stages::step::step_in;
+use step::step_in;
 
 // The registers and the PCR after the last step, the steps before it, and how it ended.
 pub struct Burst {

@@ -1,33 +1,26 @@
--- The stages as the machine's own definition has them, from the effective address to the whole step.
+-- The stages as the machine's own definition has them: an unprivileged instruction from the effective address on, and the fetch.
 -- Assumes nothing.
-use Prim.Native.Nat.{ℕ, zero, suc, _+_, _/_, _%_, _<_, _≤_}
+use Prim.Native.Nat.{ℕ}
 use mathlib.Core.Path.{_≡_, refl, ap, sym, _∙_, subst}
-use mathlib.Core.Bool.{Bool, true, false, cond, _&&_, _||_}
+use mathlib.Core.Bool.{Bool, true, false, cond}
 use mathlib.Core.List.{List, [], _∷_}
-use native.Mathlib.Omega.{arith}
 use lib.IntN.{ℤ}
-use lib.ListN.{getD, set, length}
+use lib.ListN.{length}
 use lib.Dec.{T, ltb, eqb}
-use borrow.Author.Tests.{ltb-true, ltb-false, eqb-true, eqb-false, eq-eqb}
 use types.Run.{OneOf, miss}
 use denote.Enum.Declared.{tagOf}
 use Rattle.isa.proofs.instruction.User.{the-type}
-use Rattle.isa.proofs.Tests.{no-both, either, decided, and-left, and-right}
-use Rattle.isa.specs.Machine.{bit, reg, next, nextCore, withFile, ringOf}
-use Rattle.isa.specs.Decode.{decode, rows, byEnds, registerOf, sourceOf, traOf, trrOf, maskedOf, switchOf, srbOf, lrbOf, shiftOf}
+use Rattle.isa.proofs.Tests.{no-both}
+use Rattle.isa.specs.Machine.{next, nextCore, withFile, ringOf}
 use Rattle.isa.specs.Address.{access, firstRule, firstAddress, addressRule, indirectAccess}
-use Rattle.isa.specs.Instructions.{Completed, loads, indirectRequest, complete, operand}
-use Rattle.isa.specs.Pages.{Tested, testAll, wordAt, rightsOf, rightsBy, passes, entryAt, slotOf, lowered, loweredPcr}
-use Rattle.isa.specs.Step.{finished, operands, operandsTested, indirectTested, userStage, executed, afterFetch, fetched, failed, instructionStage, stepIn}
+use Rattle.isa.specs.Instructions.{Completed, loads, indirectRequest, complete}
+use Rattle.isa.specs.Pages.{Tested, testAll, wordAt, rightsOf, passes, lowered, loweredPcr}
+use Rattle.isa.specs.Step.{finished, operands, operandsTested, indirectTested, userStage, failed}
 use Rattle.isa.specs.declared.access.Access.{Access}
-use Rattle.isa.specs.declared.access.Kind.the-variants.{Fetch, Indirect}
+use Rattle.isa.specs.declared.access.Kind.the-variants.{Indirect}
 use Rattle.isa.specs.declared.access.Rights.{Rights}
 use Rattle.isa.specs.declared.access.Translation.{Translation}
 use Rattle.isa.specs.declared.access.Translation.the-variants.{NoAccess, Load, Store, LoadTable, StoreTable, Protection, PageFault, OutOfRange}
-use Rattle.isa.specs.declared.instruction.ControlOp.{ControlOp}
-use Rattle.isa.specs.declared.instruction.Instruction.{Instruction}
-use Rattle.isa.specs.declared.instruction.Instruction.the-variants.{Unprivileged, Privileged, Execute, Monitor, Illegal}
-use Rattle.isa.specs.declared.instruction.Maskable.{Maskable}
 use Rattle.isa.specs.declared.instruction.MemoryOp.{MemoryOp}
 use Rattle.isa.specs.declared.instruction.Mode.{Mode}
 use Rattle.isa.specs.declared.instruction.User.{User}
@@ -35,20 +28,18 @@ use Rattle.isa.specs.declared.instruction.User.the-variants.{Memory, Jump, Skip
 use Rattle.isa.specs.declared.machine.Control.{Control}
 use Rattle.isa.specs.declared.machine.Core.{Core}
 use Rattle.isa.specs.declared.machine.File.{File}
-use Rattle.isa.specs.declared.machine.Register.the-variants.{Sts, P}
 use Rattle.execute.specs.Effects.{fileOf, applied, completed}
 use Rattle.execute.specs.Completion.{inRegisters, registerCompletion}
 use Rattle.execute.specs.declared.effect.Effect.{Effect}
-use Rattle.execute.proofs.Laws.{file-of, register-completion, other}
-use Rattle.decode.proofs.Laws.{row}
+use Rattle.execute.proofs.Laws.{file-of, register-completion}
 use Rattle.operands.specs.Addresses.{firstAt, hasIndirect, afterIndirect}
 use Rattle.operands.proofs.Laws.{first-address, indirect-access, effective-address}
-use Rattle.paging.proofs.Outcomes.{Found, found-passed, found-failed, found-within, passes-zero, fails-other, done}
+use Rattle.paging.proofs.Outcomes.{Found, found-passed, found-failed, found-within, fails-other, done}
 use Rattle.paging.specs.Outcome.{Outcome}
 use Rattle.event.specs.Events.{eventPart}
 use Rattle.event.specs.declared.Event.{Event}
 use Rattle.event.specs.declared.Event.the-variants.{Fine, Error, Failed as Faulted}
-use Rattle.stages.specs.Stages.{Executing, ExecutingAt, ByIndirect, Addressed, Operation, ByteOperation, UserStage, InstructionStage, doneIn, operation, accessedBy, addressed, afterIndirectWord, isMemory, followed, coreOf, AfterFetch, ExecutedWord, QuickStep}
+use Rattle.stages.specs.Stages.{Executing, ExecutingAt, ByIndirect, Addressed, Operation, ByteOperation, UserStage, doneIn, operation, accessedBy, addressed, afterIndirectWord, isMemory, coreOf, AfterFetch}
 use Rattle.stages.specs.declared.address.Effective.{Effective}
 use Rattle.stages.specs.declared.address.Effective.the-variants.{At, Failed}
 use Rattle.stages.specs.declared.done.Done.{Done}
@@ -280,122 +271,6 @@ store-left Mix3 i q h = absurd (no-both (sym q))
 store-left (Multiply s d) i q h = absurd (no-both (sym q))
 store-left (Divide s) i q h = absurd (no-both (sym q))
 
--- ---- EXR
-
--- an instruction that is not EXR
-abbrev plain : Instruction → Bool
-plain (Unprivileged u) = true
-plain (Privileged q) = true
-plain (Execute s) = false
-plain (Monitor n) = true
-plain Illegal = true
-
-executed-plain : (f : File) (i : Instruction) → plain i ≡ true → executed f i ≡ i
-executed-plain f (Unprivileged u) h = refl
-executed-plain f (Privileged q) h = refl
-executed-plain f (Execute s) h = absurd (no-both h)
-executed-plain f (Monitor n) h = refl
-executed-plain f Illegal h = refl
-
--- the rows of a table from the number b on have no EXR, but for a row that holds k alone
-abbrev plainBut : ℕ → ℕ → List (ℕ × Instruction) → Bool
-plainBut k b [] = true
-plainBut k b (r ∷ rs) = (plain (r .1) || (eqb b k && eqb (r .0) (suc k))) && plainBut k (r .0) rs
-
-plain-other :
-    (k b : ℕ) (rs : List (ℕ × Instruction)) (d : Instruction) (n : ℕ) → plainBut k b rs ≡ true → plain d ≡ true → b ≤ n → (n ≡ k → ⊥)
-    → plain (byEnds rs d n) ≡ true
-unfolding byEnds
-plain-other k b [] d n h p l e = p
-plain-other k b (r ∷ rs) d n h p l e =
-    decided (λ (i : Instruction). plain i ≡ true) (ltb n (r .0))
-    (λ q. here _ _ _ (and-left (plain (r .1) || (eqb b k && eqb (r .0) (suc k))) (plainBut k (r .0) rs) h) (alone q))
-    (λ q. plain-other k (r .0) rs d n (and-right (plain (r .1) || (eqb b k && eqb (r .0) (suc k))) (plainBut k (r .0) rs) h) p (ltb-false n (r .0) q) e)
-  where
-    here : (x y z : Bool) → (x || (y && z)) ≡ true → (y ≡ true → z ≡ true → ⊥) → x ≡ true
-    here true y z h f = refl
-    here false true true h f = absurd (f refl refl)
-    here false true false h f = h
-    here false false z h f = h
-
-    alone : ltb n (r .0) ≡ true → eqb b k ≡ true → eqb (r .0) (suc k) ≡ true → ⊥
-    alone q x y =
-        let o : n < r .0 = ltb-true n (r .0) q in
-        let i : b ≡ k = eqb-true b k x in
-        let j : r .0 ≡ suc k = eqb-true (r .0) (suc k) y in
-        e (omega arith)
-
--- a table with no EXR at all
-plain-table : (rs : List (ℕ × Instruction)) (d : Instruction) (n : ℕ) → plainBut (suc n) 0 rs ≡ true → plain d ≡ true → plain (byEnds rs d n) ≡ true
-plain-table rs d n h p = plain-other (suc n) 0 rs d n h p (omega arith) (λ e. omega arith)
-
-plain-tra : (n : ℕ) → plain (traOf n) ≡ true
-unfolding traOf
-plain-tra n = plain-table _ _ n refl refl
-
-plain-trr : (n : ℕ) → plain (trrOf n) ≡ true
-unfolding trrOf
-plain-trr n = plain-table _ _ n refl refl
-
-plain-masked : (f : Maskable → ControlOp) (n : ℕ) → plain (maskedOf f n) ≡ true
-unfolding maskedOf
-plain-masked f n = plain-table _ _ n refl refl
-
-plain-switch : (n : ℕ) → plain (switchOf n) ≡ true
-unfolding switchOf
-plain-switch n = plain-table _ _ n refl refl
-
-plain-srb : (w : ℕ) → plain (srbOf w) ≡ true
-unfolding srbOf
-plain-srb w = either (λ (i : Instruction). plain i ≡ true) (eqb (w % 8) 2) refl refl
-
-plain-lrb : (w : ℕ) → plain (lrbOf w) ≡ true
-unfolding lrbOf
-plain-lrb w = either (λ (i : Instruction). plain i ≡ true) (eqb (w % 8) 0) refl refl
-
-plain-shift : (w : ℕ) → plain (shiftOf w) ≡ true
-unfolding shiftOf
-plain-shift w = either (λ (i : Instruction). plain i ≡ true) (eqb (bit 6 w) 0) refl refl
-
-plain-decode : (w : ℕ) → (w / 64 ≡ 0o1406 → ⊥) → plain (decode w) ≡ true
-unfolding decode
-plain-decode w h =
-    let q : plainBut 0o1406 0 (rows w) ≡ true =
-    simp (plain-tra, plain-trr, plain-masked, plain-switch, plain-srb, plain-lrb, plain-shift) in
-    plain-other 0o1406 0 (rows w) Illegal (w / 64) q refl (omega arith) h
-
-decode-execute : (w : ℕ) → w / 64 ≡ 0o1406 → decode w ≡ Execute (sourceOf w)
-unfolding decode
-decode-execute w h = sym (row 25 0o1406 (rows w) Illegal (w / 64) refl refl (omega arith) (omega arith))
-
--- the instruction that is executed is that of the word that was followed
-executed-followed : (f : File) (w : ℕ) → decode (followed (next f) w) ≡ executed f (decode w)
-executed-followed f w =
-    decided (λ (v : ℕ). decode v ≡ executed f (decode w)) (eqb (w / 64) 0o1406)
-    (λ h. ap (executed f) (sym (decode-execute w (eqb-true (w / 64) 0o1406 h))))
-    (λ h. sym (executed-plain f (decode w) (plain-decode w (eqb-false (w / 64) 0o1406 h))))
-
--- a register operand by its number
-operand-of : (ws : List ℕ) (n : ℕ) → n < 8 → cond (eqb n 0) 0 (getD ws n 0) ≡ operand (fileOf ws) (registerOf n)
-unfolding byEnds
-operand-of ws zero h = refl
-operand-of ws (suc zero) h = refl
-operand-of ws (suc (suc zero)) h = refl
-operand-of ws (suc (suc (suc zero))) h = refl
-operand-of ws (suc (suc (suc (suc zero)))) h = refl
-operand-of ws (suc (suc (suc (suc (suc zero))))) h = refl
-operand-of ws (suc (suc (suc (suc (suc (suc zero)))))) h = refl
-operand-of ws (suc (suc (suc (suc (suc (suc (suc zero))))))) h = refl
-operand-of ws (suc (suc (suc (suc (suc (suc (suc (suc n)))))))) h = absurd (omega arith)
-
--- the code's word v of EXR's register
-pub followed-execute :
-    (ws : List ℕ) (w v : ℕ) → w / 64 ≡ 0o1406 → v ≡ cond (eqb (w / 8 % 8) 0) 0 (getD ws (w / 8 % 8) 0) → v ≡ followed (fileOf ws) w
-followed-execute ws w v h e =
-    e
-    ∙ operand-of ws (w / 8 % 8) (omega arith)
-    ∙ ap (λ (b : Bool). cond b (operand (fileOf ws) (sourceOf w)) w) (sym (eq-eqb (w / 64) 0o1406 h))
-
 -- ---- the fetch
 
 -- a fetch from memory with paging on
@@ -418,59 +293,3 @@ fetch-off p ring (StoreTable n) f k g = refl
 fetch-off p ring (Protection n) f k g = refl
 fetch-off p ring (PageFault n) f k g = refl
 fetch-off p ring OutOfRange f k g = refl
-
--- ---- the step
-
--- the rights by the registers with P one further
-rights-at :
-    (f : File) (ws : List ℕ) (p g : ℕ) (k : Control) → next f ≡ fileOf ws → k .paging ≡ g
-    → rightsOf (coreOf f p k) ≡ rightsBy (getD ws 0 0) p g
-rights-at f ws p g k e h =
-    let s : reg f Sts ≡ getD ws 0 0 = sym (other f 0 (λ z. omega arith)) ∙ ap (λ (i : File). reg i Sts) e in
-    ap (λ (x : ℕ). rightsBy x p (k .paging)) s ∙ ap (rightsBy (getD ws 0 0) p) h
-
--- the instruction i of the word w was executed with the rights r
-pub word-executed :
-    (ws m t : List ℕ) (a p g w : ℕ) (r : Rights) (i : Instruction) (d : Done) (m′ t′ : List ℕ) → r ≡ rightsBy (getD ws 0 0) p g
-    → i ≡ decode (followed (fileOf ws) w) → InstructionStage ws a r i m t d m′ t′ → ExecutedWord ws a p g w m t d m′ t′
-word-executed ws m t a p g w r i d m′ t′ q y h l f k e z n =
-    h l (coreOf f p k) (record { executing = record { file = e; rights = rights-at f ws p g k e n ∙ sym q }; address = z })
-    ∙ ap (instructionStage l (coreOf f p k) m t) (y ∙ ap (λ (b : File). decode (followed b w)) (sym e) ∙ executed-followed f w)
-
--- what the code found of the fetch: the rights r, the ring of its entry, its place x, the number n of its fault, and the tables v
--- that it left
-pub record Fetched (ws m t : List ℕ) (p g : ℕ) (r : Rights) (ring : ℕ) (x : Translation) (n : ℕ) (v : List ℕ) : Type 0 where
-  pub rights : r ≡ rightsBy (getD ws 0 0) p g
-  pub entry : ring ≡ entryAt t (slotOf (r .normal) (getD ws 2 0)) .ring
-  pub found : Found t (length m) r (access Fetch false (getD ws 2 0)) x n v
-
-module _ {ws m t : List ℕ} {p g : ℕ} {r : Rights} {ring : ℕ} {x : Translation} {n : ℕ} {v : List ℕ} (f : Fetched ws m t p g r ring x n v) where
-  fetched-step : (l : ℕ) (k : Control) (b : Bool) → passes x ≡ b → k .paging ≡ g
-      → cond b (instructionStage l (afterFetch (coreOf (fileOf ws) p k) ring x) m v (executed (fileOf ws) (decode (wordAt m v x)))) (failed (coreOf (fileOf ws) p k) x m v)
-      ≡ stepIn l (coreOf (fileOf ws) p k) m t
-  unfolding stepIn fetched
-  fetched-step l k b s h =
-      let q : fetched l (coreOf (fileOf ws) p k) m v ring x ≡ stepIn l (coreOf (fileOf ws) p k) m t = rw (f .entry, f .found .place, f .found .marks, f .rights, ← h) refl in
-      ap (λ (y : Bool). cond y (instructionStage l (afterFetch (coreOf (fileOf ws) p k) ring x) m v (executed (fileOf ws) (decode (wordAt m v x)))) (failed (coreOf (fileOf ws) p k) x m v)) (sym s) ∙ q
-
-  -- it passed, and the word w was executed with P at y and the PCR q
-  pub quick-passed : (y q w : ℕ) (d : Done) (m′ t′ : List ℕ) → n ≡ 0 → y ≡ (getD ws 2 0 + 1) % 65536 → AfterFetch p (r .paging) ring x q → w ≡ wordAt m v x
-      → ExecutedWord (set ws 2 y) (getD ws 2 0) q g w m v d m′ t′
-      → QuickStep ws p g m t (record { effect = d .effect; pcr = q; event = d .event }) (set ws 2 y) m′ t′
-  quick-passed y q w d m′ t′ s e a i h l k z =
-      let c : Core = coreOf (fileOf ws) p k in
-      let u : next (fileOf ws) ≡ fileOf (set ws 2 y) = ap (λ (b : ℕ). fileOf (set ws 2 b)) (sym e) in
-      let o : afterFetch c ring x ≡ coreOf (fileOf ws) q k = a (fileOf ws) k (ap (λ (b : ℕ). eqb b 1) z ∙ ap (λ (b : Rights). b .paging) (sym (f .rights))) in
-      ap (λ (b : File). eventPart l (coreOf (applied (d .effect) b) q k) m′ t′ (d .event)) (sym u)
-      ∙ h l (fileOf ws) k u refl z
-      ∙ ap (λ (b : Core). instructionStage l b m v (executed (fileOf ws) (decode w))) (sym o)
-      ∙ ap (λ (b : ℕ). instructionStage l (afterFetch c ring x) m v (executed (fileOf ws) (decode b))) i
-      ∙ fetched-step l k true (passes-zero x (f .found .fault) s) z
-
-  -- it failed
-  pub quick-failed : (e : Effect) → (n ≡ 0 → ⊥) → completed e (fileOf ws) ≡ loads (fileOf ws)
-      → QuickStep ws p g m t (record { effect = e; pcr = p; event = Faulted x }) ws m v
-  unfolding eventPart
-  quick-failed e s h l k z =
-      ap (λ (b : File). failed (coreOf b p k) x m v) (file-of e (fileOf ws) (loads (fileOf ws)) h)
-      ∙ fetched-step l k false (fails-other x (f .found .fault) s) z

@@ -1,6 +1,6 @@
 -- The stages of an unprivileged instruction by what the code has in hand: the registers with P one further, the rights, and the
 -- instruction's own address.
-use Prim.Native.Nat.{ℕ, _/_}
+use Prim.Native.Nat.{ℕ}
 use mathlib.Core.Path.{_≡_}
 use mathlib.Core.Bool.{Bool, true, false, cond}
 use mathlib.Core.List.{List, [], _∷_}
@@ -8,15 +8,13 @@ use lib.ListN.{getD, length}
 use lib.Dec.{eqb}
 use lib.IntN.{ℤ}
 use Rattle.isa.specs.Machine.{reg, next, nextCore, withFile}
-use Rattle.isa.specs.Decode.{decode, sourceOf}
 use Rattle.isa.specs.Address.{access, firstRule, addressRule}
-use Rattle.isa.specs.Instructions.{Completed, memoryRequest, memoryCompletion, operand}
+use Rattle.isa.specs.Instructions.{Completed, memoryRequest, memoryCompletion}
 use Rattle.isa.specs.Pages.{Tested, testAll, passes, wordsAt, rightsOf}
-use Rattle.isa.specs.Step.{Part, failed, finished, operands, userStage, instructionStage, executed, afterFetch, stepIn}
+use Rattle.isa.specs.Step.{Part, failed, finished, operands, userStage, afterFetch}
 use Rattle.isa.specs.declared.access.Kind.the-variants.{Indirect}
 use Rattle.isa.specs.declared.access.Rights.{Rights}
 use Rattle.isa.specs.declared.access.Translation.{Translation}
-use Rattle.isa.specs.declared.instruction.Instruction.{Instruction}
 use Rattle.isa.specs.declared.instruction.MemoryOp.{MemoryOp}
 use Rattle.isa.specs.declared.instruction.Mode.{Mode}
 use Rattle.isa.specs.declared.instruction.User.{User}
@@ -31,7 +29,6 @@ use Rattle.event.specs.Events.{eventPart}
 use Rattle.stages.specs.declared.done.Done.{Done}
 use Rattle.stages.specs.declared.address.Effective.{Effective}
 use Rattle.stages.specs.declared.address.Effective.the-variants.{At, Failed}
-use Rattle.stages.specs.declared.step.Quick.{Quick}
 
 -- c executes an instruction: its registers with P one further are ws, and its accesses are judged by r
 pub record Executing (c : Core) (ws : List ℕ) (r : Rights) : Type 0 where
@@ -113,15 +110,11 @@ isMemory Mix3 = false
 isMemory (Multiply s d) = false
 isMemory (Divide s) = false
 
--- what a stage answers for an unprivileged instruction, and for any
+-- what a stage answers for an unprivileged instruction
 abbrev pub UserStage : List ℕ → ℕ → Rights → User → List ℕ → List ℕ → Done → List ℕ → List ℕ → Type 0
 UserStage ws at r u m t d m' t' = (l : ℕ) (c : Core) → ExecutingAt c ws at r → doneIn l c d m' t' ≡ userStage c m t u
 
-abbrev pub InstructionStage : List ℕ → ℕ → Rights → Instruction → List ℕ → List ℕ → Done → List ℕ → List ℕ → Type 0
-InstructionStage ws at r i m t d m' t' =
-    (l : ℕ) (c : Core) → ExecutingAt c ws at r → doneIn l c d m' t' ≡ instructionStage l c m t i
-
--- ---- one step of the running level
+-- ---- the fetch
 
 -- the core of a file, a PCR and control words
 abbrev pub coreOf : File → ℕ → Control → Core
@@ -130,19 +123,3 @@ coreOf f p k = record { file = f; pcr = p; control = k }
 -- the PCR p becomes q by the fetch to the place x, with paging on or not
 abbrev pub AfterFetch : ℕ → Bool → ℕ → Translation → ℕ → Type 0
 AfterFetch p on ring x q = (f : File) (k : Control) → eqb (k .paging) 1 ≡ on → afterFetch (coreOf f p k) ring x ≡ coreOf f q k
-
--- EXR's word is that of its register: the word that is decoded in the end, for the word w fetched
-abbrev pub followed : File → ℕ → ℕ
-followed f w = cond (eqb (w / 64) 0o1406) (operand f (sourceOf w)) w
-
--- what a step answers for the word w fetched by a core whose PCR and paging switch are p and g
-abbrev pub ExecutedWord : List ℕ → ℕ → ℕ → ℕ → ℕ → List ℕ → List ℕ → Done → List ℕ → List ℕ → Type 0
-ExecutedWord ws at p g w m t d m' t' =
-    (l : ℕ) (f : File) (k : Control) → next f ≡ fileOf ws → reg f P ≡ at → k .paging ≡ g
-    → doneIn l (coreOf f p k) d m' t' ≡ instructionStage l (coreOf f p k) m t (executed f (decode w))
-
--- what the registers ws, with P one further or where the fetch failed, become by the effect, with the PCR and the event
-abbrev pub QuickStep : List ℕ → ℕ → ℕ → List ℕ → List ℕ → Quick → List ℕ → List ℕ → List ℕ → Type 0
-QuickStep ws p g m t q ws' m' t' =
-    (l : ℕ) (k : Control) → k .paging ≡ g
-    → eventPart l (coreOf (applied (q .effect) (fileOf ws')) (q .pcr) k) m' t' (q .event) ≡ stepIn l (coreOf (fileOf ws) p k) m t

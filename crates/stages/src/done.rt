@@ -14,7 +14,7 @@ pub struct Done {
     pub event: Event,
 }
 
-pub fn fine(e: Effect) -> Done
+pub(crate) fn fine(e: Effect) -> Done
     ensures { λ d. ⌜ d .effect ≡ e ⌝ }
     ensures { λ d. ⌜ d .event ≡ Fine ⌝ }
 {

@@ -1,13 +1,11 @@
-// One step of the running level over its registers, its PCR, memory and tables: the stages that work on nothing else, and an
-// event that names what is left to be done.
+// The stages of an unprivileged instruction over the running level's registers, memory and tables: the effective address, the words
+// read, what is made of them, the words stored; and the ring after a fetch. An event names what is left to be done.
 mod address;
 mod byte;
-mod done;
-mod fetch;
-mod instruction;
+pub mod done;
+pub mod fetch;
 mod operation;
 mod several;
 mod single;
-pub mod step;
 mod update;
-mod user;
+pub mod user;

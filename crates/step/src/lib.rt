@@ -1,8 +1,8 @@
-// One step of the running level.
+// One step of the running level over its registers, its PCR, memory and tables: the fetch, the ring, and the word fetched; an event
+// names what is left to be done.
 ghost use mathlib.Core.Path.{_≡_};
 ghost use lib.ListN.{length};
-ghost use Rattle.stages.specs.Stages.{QuickStep};
-use crate::fetch::after_fetch;
+ghost use Rattle.step.specs.Steps.{QuickStep};
 use crate::instruction::executed_word;
 use event::Event;
 use execute::effect;
@@ -14,6 +14,9 @@ use paging::place::word_at;
 use paging::rights::rights;
 use paging::translation::ring_at;
 use paging::translation::translate;
+use stages::fetch::after_fetch;
+
+mod instruction;
 
 // What is made of the registers, the PCR after the step, and how it ended.
 pub struct Quick {

@@ -7,10 +7,10 @@ use mir.ValLaws.{toZ-ofZ}
 use Rattle.isa.specs.Step.{instructionStage}
 use Rattle.event.specs.declared.Event.the-variants.{Monitor}
 use Rattle.event.specs.Events.{eventPart}
 use Rattle.stages.proofs.Stages.{event-left}
 use borrow.Author.Needs.{needs}
-use Rattle.stages.proofs.instruction.instruction_stage.Statement.{statement}
-use Rattle.stages.proofs.instruction.instruction_stage.Tie as tie
+use Rattle.step.proofs.instruction.instruction_stage.Statement.{statement}
+use Rattle.step.proofs.instruction.instruction_stage.Tie as tie
 
 enum-known-i : tie.Need-enum-known-i
 enum-known-i c = search needs

@@ -3,10 +3,10 @@
 use Prim.Native.Nat.{_/_, _%_}
 use lib.ListN.{getD}
 use borrow.Author.Tests.{eq-eqb, ne-eqb}
-use Rattle.stages.proofs.Stages.{followed-execute}
+use Rattle.step.proofs.Exr.{followed-execute}
 use borrow.Author.Needs.{needs}
-use Rattle.stages.proofs.instruction.followed.Statement.{statement}
-use Rattle.stages.proofs.instruction.followed.Tie as tie
+use Rattle.step.proofs.instruction.followed.Statement.{statement}
+use Rattle.step.proofs.instruction.followed.Tie as tie
 
 cast-n : tie.Need-cast-n
 cast-n c = search needs

@@ -6,10 +6,10 @@ use lib.ListN.{getD, length, length-set}
 use Rattle.isa.specs.Address.{access}
 use Rattle.isa.specs.declared.access.Kind.the-variants.{Fetch}
 use Rattle.paging.proofs.Outcomes.{Found, found-within}
-use Rattle.stages.proofs.Stages.{Fetched, quick-passed, quick-failed}
+use Rattle.step.proofs.Steps.{Fetched, quick-passed, quick-failed}
 use borrow.Author.Needs.{needs}
-use Rattle.stages.proofs.step.step_in.Statement.{statement}
-use Rattle.stages.proofs.step.step_in.Tie as tie
+use Rattle.step.proofs.step_in.Statement.{statement}
+use Rattle.step.proofs.step_in.Tie as tie
 
 element-copy-out-at : tie.Need-element-copy-out-at
 element-copy-out-at c = search needs

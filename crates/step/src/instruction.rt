@@ -3,15 +3,15 @@ ghost use mathlib.Core.Path.{_≡_};
 ghost use Prim.Native.Nat.{_<_};
 ghost use lib.ListN.{length};
 ghost use Rattle.execute.specs.Effects.{fileOf};
-ghost use Rattle.stages.specs.Stages.{InstructionStage, ExecutedWord, followed};
-use crate::done::Done;
-use crate::done::with_event;
-use crate::user::user_stage;
+ghost use Rattle.step.specs.Steps.{InstructionStage, ExecutedWord, followed};
 use event::Event;
 use isa::access::Rights;
 use isa::instruction::Instruction;
 use isa::machine::Registers;
 use paging::rights::rights;
+use stages::done::Done;
+use stages::done::with_event;
+use stages::user::user_stage;
 
 // An instruction after EXR was followed: EXR itself is illegal here.
 fn instruction_stage(

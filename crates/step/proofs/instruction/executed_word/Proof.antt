@@ -2,10 +2,10 @@
 -- Assumes nothing.
 use mathlib.Core.Path.{ap, _∙_}
 use Rattle.isa.specs.Decode.{decode}
-use Rattle.stages.proofs.Stages.{word-executed}
+use Rattle.step.proofs.Steps.{word-executed}
 use borrow.Author.Needs.{needs}
-use Rattle.stages.proofs.instruction.executed_word.Statement.{statement}
-use Rattle.stages.proofs.instruction.executed_word.Tie as tie
+use Rattle.step.proofs.instruction.executed_word.Statement.{statement}
+use Rattle.step.proofs.instruction.executed_word.Tie as tie
 
 followed-requires : tie.Need-followed-requires
 followed-requires c κs = search needs

@@ -1,0 +1,2 @@
+pub mod Exr
+pub mod Steps

@@ -1,0 +1,2 @@
+-- What a step of the running level answers to, beside the definitions of the machine.
+pub mod Steps
