@@ -12,15 +12,13 @@ ghost use Rattle.isa.specs.declared.machine.State.{State};
 ghost use Rattle.paging.specs.Outcome.{Outcome};
 ghost use Rattle.blocks.specs.Blocks.{blockPlaces, listOf};
 ghost use Rattle.far.specs.Settled.{turnOf};
-use crate::level::faulted;
-use crate::registers::put_other;
-use crate::registers::reloaded;
 use crate::settle::Settled;
 use blocks::block::Block;
 use blocks::block::BlockWords;
 use blocks::test::test_block;
 use blocks::words::read_block;
 use blocks::words::store_block;
+use handler::faulted;
 use isa::access::Kind;
 use isa::machine::Core;
 use isa::machine::Register;
@@ -28,6 +26,8 @@ use levels::file_at;
 use levels::put_file;
 use paging::place::fault_of;
 use paging::rights::rights;
+use transfers::registers::put_other;
+use transfers::registers::reloaded;
 
 // The accesses of the block from the address in X on.
 fn tested(c: Core, words: usize, tables: &mut [u16], k: Kind) -> Block

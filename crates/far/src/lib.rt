@@ -1,6 +1,3 @@
-// What an event of the running level leaves to be done with control words, other levels, and register blocks.
+// What an event leaves to be done outside the running level: other levels, PCRs, and register blocks.
 mod block;
-pub mod level;
-mod pcr;
-mod registers;
 pub mod settle;

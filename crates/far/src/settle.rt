@@ -8,14 +8,14 @@ ghost use Rattle.isa.specs.Step.{farStage};
 ghost use Rattle.far.specs.Settled.{leaving, turnOf};
 use crate::block::block_loaded;
 use crate::block::block_stored;
-use crate::pcr::pcr_read;
-use crate::pcr::pcr_written;
-use crate::registers::called;
-use crate::registers::register_read;
-use crate::registers::register_written;
 use isa::answer::Far;
 use isa::answer::Near;
 use isa::machine::Core;
+use transfers::pcr::pcr_read;
+use transfers::pcr::pcr_written;
+use transfers::registers::called;
+use transfers::registers::register_read;
+use transfers::registers::register_written;
 
 // What a step leaves beside the lent words.
 pub struct Settled {

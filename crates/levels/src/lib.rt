@@ -1,4 +1,4 @@
-// A level's words: taken out of those of all levels, and put back.
+// A level's words: taken out of those of all levels, and put back; the change of level.
 ghost use mathlib.Core.Path.{_≡_};
 ghost use Prim.Native.Nat.{_<_};
 ghost use lib.ListN.{length};
@@ -7,6 +7,8 @@ use isa::machine::Core;
 use isa::machine::File;
 use isa::machine::Register;
 use isa::machine::State;
+
+pub mod change;
 
 // A level's registers.
 pub fn file_at(regs: &[u16], level: u16) -> File

@@ -10,10 +10,13 @@ use Rattle.isa.specs.Machine.{pack}
 use Rattle.isa.specs.Step.{Turn, turn, step, isStopped, levelChanged}
 use Rattle.isa.specs.declared.machine.Core.{Core}
 use Rattle.isa.specs.declared.machine.State.{State}
-use Rattle.run.specs.Runs.{Levels, Executes, dueAt, leaves, goesOn, burstPart, QuietSteps, QuietStep, Advance, advancedTurn}
-use Rattle.run.specs.declared.burst.Burst.{Burst}
-use Rattle.run.specs.declared.advance.Advanced.{Advanced}
-use Rattle.run.proofs.Laws.{one-step, next-step, level-step}
+use Rattle.levels.specs.Changes.{dueAt, advancedTurn}
+use Rattle.levels.specs.declared.change.Advanced.{Advanced}
+use Rattle.burst.specs.Bursts.{Levels, Executes, leaves, goesOn, burstPart, QuietSteps, QuietStep}
+use Rattle.burst.specs.declared.Burst.{Burst}
+use Rattle.burst.proofs.Laws.{one-step}
+use Rattle.run.specs.Runs.{Advance}
+use Rattle.run.proofs.Laws.{next-step, level-step}
 
 -- its answer for the machine s, which is left as the turn r
 abbrev pub Answered : State → List ℕ → List ℕ → ℕ → Advanced → Turn → Type 0

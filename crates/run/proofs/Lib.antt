@@ -1,4 +1,3 @@
 pub mod Laws
-pub mod Bursts
 pub mod Advances
 pub mod Loops

@@ -14,10 +14,12 @@ use Rattle.isa.proofs.Tests.{no-both, and-left}
 use Rattle.isa.specs.declared.answer.Reason.{Reason}
 use Rattle.isa.specs.declared.answer.Reason.the-variants.{Stopped, Level, Spent, Interrupt}
 use Rattle.isa.specs.declared.machine.State.{State}
-use Rattle.run.specs.Runs.{dueAt, goesOn, Advance, reasonAtRest}
-use Rattle.run.specs.declared.advance.Advanced.{Advanced}
+use Rattle.levels.specs.Changes.{dueAt}
+use Rattle.levels.specs.declared.change.Advanced.{Advanced}
+use Rattle.levels.proofs.Changes.{due-pack}
+use Rattle.burst.specs.Bursts.{goesOn}
+use Rattle.run.specs.Runs.{Advance, reasonAtRest}
 use Rattle.run.specs.declared.machine.Ran.{Ran}
-use Rattle.run.proofs.Laws.{due-pack}
 
 -- a run of n steps from s stands at r, behind k of them
 pub record Going (first : Bool) (n : ℕ) (s : State) (m t : List ℕ) (k : ℕ) (r : Turn) : Type 0 where

@@ -6,23 +6,18 @@ ghost use lib.Dec.{eqb};
 ghost use lib.ListN.{length};
 ghost use Rattle.isa.specs.Machine.{pack};
 ghost use Rattle.isa.specs.Step.{step};
-ghost use Rattle.run.specs.Runs.{leaves, burstPart, advancedTurn, Advance};
-use crate::burst::Burst;
-use crate::burst::quiet_steps;
-use crate::level::change_due;
-use crate::level::changed;
-use far::level::after_event;
+ghost use Rattle.levels.specs.Changes.{advancedTurn};
+ghost use Rattle.burst.specs.Bursts.{leaves, burstPart};
+ghost use Rattle.run.specs.Runs.{Advance};
+use burst::Burst;
+use burst::quiet_steps;
 use far::settle::settle;
+use handler::after_event;
 use isa::machine::Control;
 use isa::machine::Core;
-
-// The running level, its words, the steps before the last, and the interrupt that the last gave, or 0.
-pub struct Advanced {
-    pub level: u16,
-    pub core: Core,
-    pub before: u64,
-    pub gave: u16,
-}
+use levels::change::Advanced;
+use levels::change::change_due;
+use levels::change::changed;
 
 // What is left of the last step of a burst.
 fn settled(

@@ -12,8 +12,6 @@ use levels::closed;
 use levels::opened;
 
 mod advance;
-mod burst;
-mod level;
 mod machine;
 
 // The machine after a run, the steps taken, the interrupt that the last of them gave, or 0, and why the run ended.

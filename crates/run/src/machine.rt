@@ -7,12 +7,13 @@ ghost use lib.ListN.{length};
 ghost use Rattle.isa.specs.Machine.{pack};
 ghost use Rattle.isa.specs.Run.{runFrom};
 ghost use Rattle.isa.specs.Step.{step, turn};
-ghost use Rattle.run.specs.Runs.{dueAt, runOf, reasonAtRest};
+ghost use Rattle.levels.specs.Changes.{dueAt};
+ghost use Rattle.run.specs.Runs.{runOf, reasonAtRest};
 use crate::advance::advance;
-use crate::level::change_due;
 use isa::answer::Reason;
 use isa::machine::Control;
 use isa::machine::Core;
+use levels::change::change_due;
 
 // The running level, its words, the steps taken, the interrupt that the last of them gave, or 0, and why the run ended.
 pub struct Ran {

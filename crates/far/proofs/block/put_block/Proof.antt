@@ -1,7 +1,7 @@
 -- The registers one after the other.
 -- Assumes nothing.
 use mathlib.Core.Path.{refl, sym, _∙_}
-use Rattle.far.proofs.Laws.{also-put}
+use Rattle.transfers.proofs.Laws.{also-put}
 use borrow.Author.Needs.{needs}
 use Rattle.far.proofs.block.put_block.Statement.{statement}
 use Rattle.far.proofs.block.put_block.Tie as tie

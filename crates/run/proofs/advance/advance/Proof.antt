@@ -8,7 +8,8 @@ use Rattle.isa.specs.Machine.{pack}
 use Rattle.isa.specs.Step.{Turn}
 use Rattle.isa.specs.declared.machine.State.{State}
 use Rattle.run.proofs.Advances.{advance-change, advance-burst}
-use Rattle.run.specs.Runs.{dueAt, Executes, Levels, advancedTurn}
+use Rattle.levels.specs.Changes.{dueAt, advancedTurn}
+use Rattle.burst.specs.Bursts.{Executes, Levels}
 use borrow.Author.Needs.{needs}
 use Rattle.run.proofs.advance.advance.Statement.{statement}
 use Rattle.run.proofs.advance.advance.Tie as tie

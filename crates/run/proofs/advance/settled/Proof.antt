@@ -1,7 +1,7 @@
 -- The event's part is settled in the machine.
 -- Assumes nothing.
 use mathlib.Core.Path.{refl, ap, _∙_}
-use Rattle.run.specs.Runs.{leaves}
+use Rattle.burst.specs.Bursts.{leaves}
 use borrow.Author.Needs.{needs}
 use Rattle.run.proofs.advance.settled.Statement.{statement}
 use Rattle.run.proofs.advance.settled.Tie as tie

@@ -11,7 +11,7 @@ use borrow.Author.Tests.{eq-eqb, ne-eqb}
 use Rattle.isa.specs.Machine.{pack}
 use Rattle.isa.specs.Step.{Turn, turn}
 use Rattle.isa.specs.declared.answer.Reason.{Reason}
-use Rattle.run.specs.Runs.{dueAt, advancedTurn}
+use Rattle.levels.specs.Changes.{dueAt, advancedTurn}
 use Rattle.run.proofs.Loops.{Going, Answered, at-start, ends-stopped, ends-level, ends-at-rest, ends-interrupt, goes-on}
 use Rattle.run.proofs.machine.run_in.Statement.{statement}
 use Rattle.run.proofs.machine.run_in.Tie as tie

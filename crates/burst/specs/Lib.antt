@@ -1,0 +1,2 @@
+-- What a burst answers to, beside the definitions of the machine.
+pub mod Bursts

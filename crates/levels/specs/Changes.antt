@@ -1,0 +1,17 @@
+-- When a change of level is due, and what steps of the machine leave.
+use Prim.Native.Nat.{ℕ}
+use mathlib.Core.Bool.{Bool, not, _&&_}
+use mathlib.Core.List.{List}
+use lib.Dec.{eqb}
+use Rattle.isa.specs.Machine.{pack}
+use Rattle.isa.specs.Step.{Turn, turn, highestLevel}
+use Rattle.isa.specs.declared.machine.Control.{Control}
+use Rattle.levels.specs.declared.change.Advanced.{Advanced}
+
+-- by the control words alone: whether a change of the level l is due
+abbrev pub dueAt : ℕ → Control → Bool
+dueAt l k = eqb (k .interrupts) 1 && not (eqb (highestLevel k) l)
+
+-- what the steps leave of the machine whose other words are regs and pcrs
+abbrev pub advancedTurn : Advanced → List ℕ → List ℕ → List ℕ → List ℕ → Turn
+advancedTurn r regs pcrs m t = turn (pack (r .level) (r .core) regs pcrs) (r .gave) m t

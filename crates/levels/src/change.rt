@@ -1,0 +1,67 @@
+// A change of level.
+ghost use mathlib.Core.Path.{_≡_};
+ghost use mathlib.Core.List.{List};
+ghost use Prim.Native.Nat.{ℕ, _<_};
+ghost use lib.ListN.{length};
+ghost use Rattle.isa.specs.Machine.{pack};
+ghost use Rattle.isa.specs.Step.{highestLevel, levelChanged, turn};
+ghost use Rattle.levels.specs.Changes.{dueAt, advancedTurn};
+use crate::file_at;
+use crate::put_file;
+use isa::machine::Control;
+use isa::machine::Core;
+use word::bits;
+
+// The running level, its words, the steps before the last, and the interrupt that the last gave, or 0.
+pub struct Advanced {
+    pub level: u16,
+    pub core: Core,
+    pub before: u64,
+    pub gave: u16,
+}
+
+// The highest level in PID and PIE, 0 if none.
+fn highest_level(k: Control) -> u16
+    ensures { λ l. ⌜ l ≡ highestLevel k ⌝ }
+    ensures { λ l. ⌜ l < 16 ⌝ }
+{
+    bits::highest(k.pid & k.pie)
+}
+
+// Interrupts are on, and the highest level is not the running one.
+pub fn change_due(level: u16, k: Control) -> bool
+    ensures { λ b. ⌜ b ≡ dueAt level k ⌝ }
+{
+    if k.interrupts == 1 {
+        return highest_level(k) != level;
+    }
+    false
+}
+
+// PVL takes the old level, the new one runs: its words are taken out of the lent ones.
+pub fn changed(level: u16, c: Core, regs: &mut [u16], pcrs: &mut [u16]) -> Advanced
+    requires { ⌜ level < 16 ⌝ }
+    requires { ⌜ length (now regs) ≡ 128 ⌝ }
+    requires { ⌜ length (now pcrs) ≡ 16 ⌝ }
+    ensures { λ r. ⌜ (r .level < 16) × (r .before ≡ 0) ⌝ }
+    ensures { λ r. ⌜ ((m t : List ℕ) → advancedTurn r (now (regs .exit)) (now (pcrs .exit)) m t ≡ turn (levelChanged (pack level c (now (regs .entry)) (now (pcrs .entry)))) 0 m t) ⌝ }
+{
+    let f = c.file;
+    let mut k = c.control;
+    let to = highest_level(k);
+    let i = level as usize;
+    let j = to as usize;
+    put_file(regs, level, f);
+    pcrs[i] = c.pcr;
+    k.pvl = level;
+    Advanced {
+        level: to,
+        core: Core {
+            file: file_at(regs, to),
+            pcr: pcrs[j],
+            control: k,
+        },
+        before: 0,
+        gave: 0,
+    }
+}
