@@ -18,7 +18,8 @@ use Rattle.levels.specs.Changes.{dueAt}
 use Rattle.levels.specs.declared.change.Advanced.{Advanced}
 use Rattle.levels.proofs.Changes.{due-pack}
 use Rattle.burst.specs.Bursts.{goesOn}
-use Rattle.run.specs.Runs.{Advance, reasonAtRest}
+use Rattle.advance.specs.Advances.{Advance}
+use Rattle.run.specs.Runs.{reasonAtRest}
 use Rattle.run.specs.declared.machine.Ran.{Ran}
 
 -- a run of n steps from s stands at r, behind k of them

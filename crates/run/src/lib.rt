@@ -11,7 +11,6 @@ use isa::machine::State;
 use levels::closed;
 use levels::opened;
 
-mod advance;
 mod machine;
 
 // The machine after a run, the steps taken, the interrupt that the last of them gave, or 0, and why the run ended.

@@ -9,7 +9,7 @@ ghost use Rattle.isa.specs.Run.{runFrom};
 ghost use Rattle.isa.specs.Step.{step, turn};
 ghost use Rattle.levels.specs.Changes.{dueAt};
 ghost use Rattle.run.specs.Runs.{runOf, reasonAtRest};
-use crate::advance::advance;
+use advance::advance;
 use isa::answer::Reason;
 use isa::machine::Control;
 use isa::machine::Core;

@@ -3,8 +3,8 @@
 use mathlib.Core.Path.{refl, ap, _∙_}
 use Rattle.burst.specs.Bursts.{leaves}
 use borrow.Author.Needs.{needs}
-use Rattle.run.proofs.advance.settled.Statement.{statement}
-use Rattle.run.proofs.advance.settled.Tie as tie
+use Rattle.advance.proofs.settled.Statement.{statement}
+use Rattle.advance.proofs.settled.Tie as tie
 
 after-event-requires : tie.Need-after-event-requires
 after-event-requires c κs = search needs

@@ -7,12 +7,12 @@ use lib.ListN.{length, length-map}
 use Rattle.isa.specs.Machine.{pack}
 use Rattle.isa.specs.Step.{Turn}
 use Rattle.isa.specs.declared.machine.State.{State}
-use Rattle.run.proofs.Advances.{advance-change, advance-burst}
+use Rattle.advance.proofs.Advances.{advance-change, advance-burst}
 use Rattle.levels.specs.Changes.{dueAt, advancedTurn}
 use Rattle.burst.specs.Bursts.{Executes, Levels}
 use borrow.Author.Needs.{needs}
-use Rattle.run.proofs.advance.advance.Statement.{statement}
-use Rattle.run.proofs.advance.advance.Tie as tie
+use Rattle.advance.proofs.advance.Statement.{statement}
+use Rattle.advance.proofs.advance.Tie as tie
 
 change-due-requires : tie.Need-change-due-requires
 change-due-requires c κs = search needs

@@ -8,7 +8,7 @@ ghost use Rattle.isa.specs.Machine.{pack};
 ghost use Rattle.isa.specs.Step.{step};
 ghost use Rattle.levels.specs.Changes.{advancedTurn};
 ghost use Rattle.burst.specs.Bursts.{leaves, burstPart};
-ghost use Rattle.run.specs.Runs.{Advance};
+ghost use Rattle.advance.specs.Advances.{Advance};
 use burst::Burst;
 use burst::quiet_steps;
 use far::settle::settle;

@@ -15,8 +15,8 @@ use Rattle.levels.specs.declared.change.Advanced.{Advanced}
 use Rattle.burst.specs.Bursts.{Levels, Executes, leaves, goesOn, burstPart, QuietSteps, QuietStep}
 use Rattle.burst.specs.declared.Burst.{Burst}
 use Rattle.burst.proofs.Laws.{one-step}
-use Rattle.run.specs.Runs.{Advance}
-use Rattle.run.proofs.Laws.{next-step, level-step}
+use Rattle.advance.specs.Advances.{Advance}
+use Rattle.advance.proofs.Laws.{next-step, level-step}
 
 -- its answer for the machine s, which is left as the turn r
 abbrev pub Answered : State → List ℕ → List ℕ → ℕ → Advanced → Turn → Type 0

@@ -1,0 +1,2 @@
+-- What steps of the machine answer to, beside its definitions.
+pub mod Advances
