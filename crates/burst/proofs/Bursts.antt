@@ -1,15 +1,14 @@
 -- Quiet steps of the running level: a run goes on behind them as if each had been taken by itself.
 -- Assumes nothing.
-use Prim.Native.Nat.{ℕ, zero, suc, _+_, _-_, _<_, _≤_}
+use Prim.Native.Nat.{ℕ, suc, _+_, _-_, _<_, _≤_}
 use mathlib.Core.Path.{_≡_, refl, sym, ap, subst, _∙_}
-use mathlib.Core.Bool.{Bool, true, false, _&&_}
+use mathlib.Core.Bool.{Bool}
 use mathlib.Core.List.{List}
 use native.Mathlib.Omega.{arith}
 use lib.ListN.{length}
 use Rattle.isa.specs.Machine.{pack}
-use Rattle.isa.specs.Step.{Part, part, Turn, stepIn, changeDue}
+use Rattle.isa.specs.Step.{stepIn}
 use Rattle.isa.specs.Run.{runFrom}
-use Rattle.isa.specs.declared.answer.Far.the-variants.{Nothing}
 use Rattle.isa.specs.declared.machine.Control.{Control}
 use Rattle.isa.specs.declared.machine.Core.{Core}
 use Rattle.isa.specs.declared.machine.File.{File}

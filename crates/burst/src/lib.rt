@@ -1,7 +1,7 @@
 // Steps of the running level over its registers, PCR, memory and tables alone. No control word changes between them, so that what
 // is tested before a step need not be tested again.
 ghost use mathlib.Core.Path.{_≡_};
-ghost use Prim.Native.Nat.{_<_, _≤_};
+ghost use Prim.Native.Nat.{_<_};
 ghost use lib.ListN.{length};
 ghost use Rattle.execute.specs.Effects.{fileOf, applied};
 ghost use Rattle.burst.specs.Bursts.{QuietSteps, QuietStep};

@@ -77,10 +77,6 @@ pub file-of : (e : Effect) (f : File) (r : Completed) → completed e f ≡ r �
 unfolding completed
 file-of e f r h = ap (λ (c : Completed). c .file) h
 
-pub error-of : (e : Effect) (f : File) (r : Completed) → completed e f ≡ r → e .error ≡ r .error
-unfolding completed
-error-of e f r h = ap (λ (c : Completed). c .error) h
-
 pub no-stores : (e : Effect) (f : File) (r : Completed) → completed e f ≡ r → r .stores ≡ []
 unfolding completed
 no-stores e f r h = ap (λ (c : Completed). c .stores) (sym h)

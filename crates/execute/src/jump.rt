@@ -1,6 +1,6 @@
 // Conditional jumps.
 ghost use mathlib.Core.Path.{_≡_};
-ghost use Rattle.isa.specs.Instructions.{loads, negative, jumpIf, countX, jumped};
+ghost use Rattle.isa.specs.Instructions.{loads, negative, jumpIf, jumped};
 ghost use Rattle.isa.specs.Machine.{withReg};
 ghost use Rattle.isa.specs.declared.machine.Register.the-variants.{X};
 ghost use Rattle.execute.specs.Effects.{fileOf, completed};

@@ -1,6 +1,6 @@
 // Shifts.
 ghost use mathlib.Core.Path.{_≡_};
-ghost use Rattle.isa.specs.Instructions.{loads, doubleOf, shiftIn, shiftDouble, shifted};
+ghost use Rattle.isa.specs.Instructions.{loads, shiftIn, shiftDouble, shifted};
 ghost use Rattle.execute.specs.Completion.{shiftRegister};
 ghost use Rattle.execute.specs.Effects.{fileOf, completed};
 use crate::arithmetic;

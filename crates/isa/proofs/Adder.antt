@@ -1,7 +1,7 @@
 -- The adder's carry and overflow against whole-number sums.
 -- Assumes nothing.
-use Prim.Native.Nat.{ℕ, zero, suc, _+_, _-_, _*_, _/_, _%_, _<_, _≤_}
-use mathlib.Core.Path.{_≡_, refl, sym, ap, _∙_, subst}
+use Prim.Native.Nat.{ℕ, suc, _+_, _-_, _*_, _%_, _<_, _≤_}
+use mathlib.Core.Path.{_≡_, refl, sym, ap, _∙_}
 use mathlib.Core.Bool.{Bool, true, false, cond}
 use native.Mathlib.Omega.{arith}
 use lib.Dec.{ltb, leb, lit<}
@@ -9,8 +9,8 @@ use lib.IntN.{ℤ, pos, negsuc, subℕ, _+ℤ_}
 use lib.Signed.{mag}
 use borrow.Author.Tests.{ltb-true, ltb-false, leb-true, leb-false}
 use Rattle.isa.specs.Machine.{flagOf}
-use Rattle.isa.specs.Flags.{signedOf, bitsOf, tooLarge, adder}
-use Rattle.isa.proofs.Signed.{signed-range, bits-signed, signed-bits}
+use Rattle.isa.specs.Flags.{signedOf, bitsOf, adder}
+use Rattle.isa.proofs.Signed.{bits-signed, signed-bits}
 
 -- the sum without signs is the carry, then the value
 pub sum-whole : (a b c : ℕ) → adder a b c .carry * 65536 + adder a b c .value ≡ a + b + c

@@ -1,10 +1,10 @@
 -- The running level's words in the state: taken out, put back, and both in a row.
 -- Assumes nothing.
 use Prim.Native.Nat.{ℕ, _+_, _*_, _<_}
-use mathlib.Core.Path.{_≡_, refl, sym, ap, _∙_}
+use mathlib.Core.Path.{_≡_, sym, ap, _∙_}
 use mathlib.Core.List.{List, _++_, append-assoc}
 use native.Mathlib.Omega.{arith}
-use lib.ListN.{length, take, drop, getD, set, take-append-drop}
+use lib.ListN.{length, take, drop, take-append-drop}
 use lib.Seq.{length-take-le, take-all, take-at, drop-at, take-take, take-add, paste, length-paste, drop-paste, getD-set-same, set-set, set-getD}
 use Rattle.isa.specs.Machine.{fileAt, putFile, coreOf, pack, withCore}
 use Rattle.isa.specs.declared.machine.File.{File}
@@ -47,10 +47,6 @@ module _ (b : List ℕ) (l : ℕ) (h : l < 16) (e : length b ≡ 128) where
       ap (λ (x : List ℕ). take (l * 8) b ++ x ++ drop (l * 8 + 8) b) (take-take 8 8 (drop (l * 8) b) (omega arith))
       ∙ ap (λ (x : List ℕ). x ++ drop (l * 8 + 8) b) (sym (take-add (l * 8) 8 b))
       ∙ take-append-drop (l * 8 + 8) b
-
-  pub file-length : length (fileAt b l .words) ≡ 8
-  unfolding fileAt
-  file-length = length-take-le 8 (drop (l * 8) b) (omega (arith, lib.ListN.length-drop (l * 8) b))
 
 -- ---- the running level in the state
 

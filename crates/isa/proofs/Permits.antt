@@ -1,14 +1,14 @@
 -- Which pages an entry of the two tables permits, and where an access that passed goes.
 -- Assumes nothing.
 use Prim.Native.Nat.{ℕ, zero, suc, _+_, _*_, _/_, _<_, _≤_}
-use mathlib.Core.Path.{_≡_, refl, sym, subst, _∙_}
+use mathlib.Core.Path.{_≡_, refl, sym, _∙_}
 use mathlib.Core.Bool.{Bool, true, false, cond, not, _&&_, _||_}
 use mathlib.Core.Logic.{_⊎_, inl, inr}
 use mathlib.Core.List.{List}
 use native.Mathlib.Omega.{arith}
 use native.Mathlib.Nat.{le-trans}
 use native.Mathlib.Decide.{ℕ-discrete}
-use lib.Dec.{ltb, leb, eqb}
+use lib.Dec.{ltb, eqb}
 use borrow.Author.Tests.{leb-true, le-leb, eq-eqb}
 use Rattle.isa.specs.Pages.{Entry, entryAt, somePermit, needed, ringAllows, physical, pagingStatus, inMemory, withinMemory, judged}
 use Rattle.isa.specs.Isolation.{MarksAlone, permits, permitsWriting, someBelow, someEntry, inEither, permitted, permittedWriting}

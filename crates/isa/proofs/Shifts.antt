@@ -1,11 +1,11 @@
 -- Facts that shifts of 16 and 32 bits share, for any width above 0.
 -- Assumes nothing.
-use Prim.Native.Nat.{ℕ, zero, suc, _+_, _-_, _*_, _/_, _%_, _^_, _<_, _≤_}
+use Prim.Native.Nat.{ℕ, zero, suc, _+_, _-_, _*_, _/_, _%_, _^_, _<_}
 use native.Mathlib.Nat.{div-add-mod', mod-lt, div-lt-iff-lt-mul, div-one, mul-one, mul-comm, mul-assoc, add-zero, zero-mul, mod-eq-of-lt, mul-div-cancel, mul-mod-left, pow-suc}
-use native.Mathlib.Numerals.{add-one, one-add}
+use native.Mathlib.Numerals.{add-one}
 use native.Mathlib.Omega.{arith}
-use mathlib.Core.Path.{_≡_, refl, sym, ap, _∙_, subst}
-use lib.Pow.{pow-pos, shr-shr, mod-mod-pow, field}
+use mathlib.Core.Path.{_≡_, sym, ap, _∙_, subst}
+use lib.Pow.{pow-pos, shr-shr, mod-mod-pow}
 use lib.Arith.{mod-mul, digits-lt, digits-div, digits-mod}
 use lib.Dec.{lit<}
 use lib.IntN.{ℤ, pos, negsuc}

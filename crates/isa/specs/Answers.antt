@@ -1,8 +1,8 @@
 -- Document 01, "What is sent back": each operation with its refusals, what it answers and what it leaves.
-use Prim.Native.Nat.{ℕ, zero, suc, _+_}
-use mathlib.Core.Bool.{Bool, true, false, cond, not, _&&_, _||_}
-use mathlib.Core.List.{List, [], _∷_, _++_}
-use lib.ListN.{getD, take, drop, length}
+use Prim.Native.Nat.{ℕ, _+_}
+use mathlib.Core.Bool.{Bool, cond, not, _&&_, _||_}
+use mathlib.Core.List.{List, [], _++_}
+use lib.ListN.{take, drop, length}
 use lib.Dec.{ltb, leb, eqb}
 use Rattle.isa.specs.Machine.{withBit, inRange, sizesFit}
 use Rattle.isa.specs.System.{withPid}

@@ -1,6 +1,6 @@
 -- Document 01, "Decoding and addresses": the sixteen-bit word is sorted by its top ten bits, then where needed by its low six.
-use Prim.Native.Nat.{ℕ, _+_, _*_, _/_, _%_}
-use mathlib.Core.Bool.{Bool, true, false, cond}
+use Prim.Native.Nat.{ℕ, _/_, _%_}
+use mathlib.Core.Bool.{Bool, cond}
 use mathlib.Core.List.{List, [], _∷_}
 use lib.Dec.{ltb, eqb}
 use lib.IntN.{ℤ}
@@ -28,7 +28,6 @@ use Rattle.isa.specs.declared.instruction.Argument.{Argument}
 use Rattle.isa.specs.declared.instruction.Argument.the-variants.{ArgumentB, ArgumentA, ArgumentT, ArgumentX}
 use Rattle.isa.specs.declared.instruction.BitOp.{BitOp}
 use Rattle.isa.specs.declared.instruction.BitOp.the-variants.{SetZero, SetOne, SetComplement, SetK, SkipZero, SkipOne, SkipComplement, SkipK, Bstc, Bsta, Bldc, Blda, Banc, Band, Borc, Bora}
-use Rattle.isa.specs.declared.instruction.User.{User}
 use Rattle.isa.specs.declared.instruction.User.the-variants.{Memory, Jump, Skip, Logic, RegisterAdd, NoOperation, Shift, SetArgument, AddArgument, Bit, LoadByte, StoreByte, Mix3, Multiply, Divide}
 use Rattle.isa.specs.declared.instruction.Readable.the-variants.{Status, Pgs, Pvl, Iic, Pid, Pie, Actl}
 use Rattle.isa.specs.declared.instruction.Writable.the-variants.{Status as ToStatus, Iie as ToIie, Pid as ToPid, Pie as ToPie}
@@ -36,7 +35,6 @@ use Rattle.isa.specs.declared.instruction.Maskable.{Maskable}
 use Rattle.isa.specs.declared.instruction.Maskable.the-variants.{Status as InStatus, Pid as InPid, Pie as InPie}
 use Rattle.isa.specs.declared.instruction.ControlOp.{ControlOp}
 use Rattle.isa.specs.declared.instruction.ControlOp.the-variants.{Ion, Iof, Pon, Pof, Pion, Piof, Wait, Tra, Trr, Mcl, Mst}
-use Rattle.isa.specs.declared.instruction.System.{System}
 use Rattle.isa.specs.declared.instruction.System.the-variants.{Control, TraPgc, TrrPcr, Irr, Irw, Srb, Lrb, Exam, Depo, Iox, Ioxt, Ident}
 use Rattle.isa.specs.declared.instruction.Instruction.{Instruction}
 use Rattle.isa.specs.declared.instruction.Instruction.the-variants.{Unprivileged, Privileged, Execute, Monitor, Illegal}

@@ -1,23 +1,21 @@
 -- The unprivileged instructions: the accesses that each asks for, and what it makes of the words read.
 use Prim.Native.Nat.{ℕ, _+_, _-_, _*_, _/_, _%_, min, max}
-use mathlib.Core.Bool.{Bool, true, false, cond, not, _&&_, _||_}
+use mathlib.Core.Bool.{Bool, true, false, cond, not, _&&_}
 use mathlib.Core.List.{List, [], _∷_}
 use lib.ListN.{getD}
-use lib.Dec.{ltb, leb, eqb}
+use lib.Dec.{leb, eqb}
 use lib.Bits.{bitAnd, bitOr, bitXor}
 use lib.IntN.{ℤ}
 use Rattle.isa.specs.Machine.{bit, withBit, reg, withReg, flag, withFlag, next, number, flagK, flagZ, flagC, flagM}
-use Rattle.isa.specs.Flags.{bitsOf, complement, Sum, adder, withSum, withOverflow, product, productOverflow, quotient, remainder, divisionFails, Shifted, shiftBy, compares}
-use Rattle.isa.specs.Address.{sum, access, firstAddress, addressRule, indirectAccess, effectiveAddress, byteAddress}
+use Rattle.isa.specs.Flags.{bitsOf, complement, Sum, adder, withSum, withOverflow, product, productOverflow, quotient, remainder, divisionFails, shiftBy, compares}
+use Rattle.isa.specs.Address.{sum, access, addressRule, indirectAccess, effectiveAddress, byteAddress}
 use Rattle.isa.specs.declared.machine.File.{File}
 use Rattle.isa.specs.declared.machine.Register.{Register}
 use Rattle.isa.specs.declared.machine.Register.the-variants.{Sts, D, P, B, L, A, T, X}
-use Rattle.isa.specs.declared.instruction.Mode.{Mode}
 use Rattle.isa.specs.declared.instruction.MemoryOp.{MemoryOp}
 use Rattle.isa.specs.declared.instruction.MemoryOp.the-variants.{Stz, Sta, Stt, Stx, Std, Ldd, Stf, Ldf, Min, Lda, Ldt, Ldx, Add, Sub, And, Ora, Mpy, Jmp, Jpl}
 use Rattle.isa.specs.declared.instruction.Condition.{Condition}
 use Rattle.isa.specs.declared.instruction.Condition.the-variants.{Jap, Jan, Jaz, Jaf, Jpc, Jnc, Jxz, Jxn}
-use Rattle.isa.specs.declared.instruction.Relation.{Relation}
 use Rattle.isa.specs.declared.instruction.LogicOp.{LogicOp}
 use Rattle.isa.specs.declared.instruction.LogicOp.the-variants.{Swap, Rand, Rexo, Rora}
 use Rattle.isa.specs.declared.instruction.CarryIn.{CarryIn}

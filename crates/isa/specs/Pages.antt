@@ -1,8 +1,8 @@
 -- Document 01, "Pages".
-use Prim.Native.Nat.{ℕ, zero, suc, _+_, _*_, _/_, _%_}
-use mathlib.Core.Bool.{Bool, true, false, cond, not, _&&_, _||_}
+use Prim.Native.Nat.{ℕ, _+_, _*_, _/_, _%_}
+use mathlib.Core.Bool.{Bool, cond, not, _&&_, _||_}
 use mathlib.Core.List.{List, [], _∷_}
-use lib.ListN.{getD, set, drop, length}
+use lib.ListN.{getD, set, drop}
 use lib.Dec.{ltb, leb, eqb}
 use Rattle.isa.specs.Machine.{bit, reg, flagPTM, ringOf, normalTableOf, alternateTableOf, withPcr}
 use Rattle.isa.specs.declared.machine.Core.{Core}

@@ -1,17 +1,17 @@
 -- Document 01, "One step": stages over the running level, each taking what the one before found, and their packing into a state.
-use Prim.Native.Nat.{ℕ, zero, suc, _+_, _*_, _/_, _%_}
+use Prim.Native.Nat.{ℕ, _+_, _*_, _%_}
 use mathlib.Core.Bool.{Bool, true, false, cond, not, _&&_, _||_}
-use mathlib.Core.List.{List, [], _∷_, map}
+use mathlib.Core.List.{List, [], _∷_}
 use lib.ListN.{getD, set, length}
 use lib.Dec.{ltb, leb, eqb}
 use lib.Bits.{bitAnd}
-use Rattle.isa.specs.Machine.{bit, withBit, number, reg, withReg, next, nextCore, fileAt, putFile, coreOf, withCore, withFile, withPcr, withControl, ringOf, pcrMask}
+use Rattle.isa.specs.Machine.{bit, withBit, number, reg, withReg, next, nextCore, coreOf, withCore, withFile, withControl, ringOf, pcrMask}
 use Rattle.isa.specs.Flags.{bitsOf}
 use Rattle.isa.specs.Decode.{decode, fourOf}
 use Rattle.isa.specs.Address.{sum, access}
 use Rattle.isa.specs.Instructions.{indirectRequest, request, complete, operand, Completed}
 use Rattle.isa.specs.System.{highestIn, withLevels, withPid, withInternal, controlled}
-use Rattle.isa.specs.Pages.{slotOf, entryAt, translate, marked, testAll, Tested, faultOf, pgsAfter, passes, wordAt, wordsAt, storeAll, Lent, lent, rightsOf, inWindow, lowered}
+use Rattle.isa.specs.Pages.{slotOf, entryAt, translate, marked, testAll, Tested, faultOf, pgsAfter, passes, wordAt, wordsAt, storeAll, rightsOf, lowered}
 use Rattle.isa.specs.declared.machine.Control.{Control}
 use Rattle.isa.specs.declared.machine.Core.{Core}
 use Rattle.isa.specs.declared.machine.File.{File}

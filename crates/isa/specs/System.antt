@@ -1,6 +1,6 @@
 -- The privileged instructions that act on the running level and the control words alone: ION to MST.
-use Prim.Native.Nat.{ℕ, zero, suc, _+_, _*_, _/_, _%_, _^_}
-use mathlib.Core.Bool.{Bool, true, false, cond}
+use Prim.Native.Nat.{ℕ, zero, suc, _+_, _*_, _%_, _^_}
+use mathlib.Core.Bool.{cond}
 use lib.Dec.{eqb}
 use lib.Bits.{bitAnd, bitOr}
 use Rattle.isa.specs.Machine.{bit, withBit, reg, withReg, withFile, withControl, interruptMask}

@@ -1,22 +1,19 @@
 -- Accesses of a program on ring 0 or 1 with paging on: where those go that pass, and what all of them leave in the tables.
 -- Assumes nothing.
-use Prim.Native.Nat.{ℕ, zero, suc, _+_, _*_, _/_, _%_, _<_, _≤_}
-use mathlib.Core.Path.{_≡_, refl, sym, ap, subst, _∙_}
-use mathlib.Core.Bool.{Bool, true, false, cond, not, _&&_, _||_}
+use Prim.Native.Nat.{ℕ, _+_, _*_, _/_, _%_, _<_, _≤_}
+use mathlib.Core.Path.{_≡_}
+use mathlib.Core.Bool.{Bool, true, false, cond, not, _&&_}
 use mathlib.Core.Logic.{_⊎_, inl, inr}
 use mathlib.Core.List.{List, [], _∷_}
 use native.Mathlib.Omega.{arith}
-use native.Mathlib.Nat.{le-trans}
-use lib.ListN.{getD, set, length}
-use lib.Dec.{ltb, leb, eqb}
+use lib.ListN.{getD, set}
+use lib.Dec.{eqb}
 use borrow.Author.Tests.{eq-eqb}
 use Rattle.isa.specs.Machine.{flag, flagPTM, ringOf, normalTableOf, alternateTableOf}
-use Rattle.isa.specs.Pages.{Entry, entryAt, judged, slotOf, tableOf, inWindow, translate, faultOf, passes, markOf, marked, Tested, testAll, alsoAt, rightsOf}
+use Rattle.isa.specs.Pages.{Entry, entryAt, judged, slotOf, tableOf, inWindow, translate, passes, markOf, marked, Tested, testAll, alsoAt, rightsOf}
 use Rattle.isa.specs.Isolation.{MarksAlone, permits, permitsWriting, permitted, permittedWriting}
 use Rattle.isa.specs.declared.machine.Core.{Core}
 use Rattle.isa.specs.declared.access.Access.{Access}
-use Rattle.isa.specs.declared.access.Kind.{Kind}
-use Rattle.isa.specs.declared.access.Kind.the-variants.{Fetch, Read, Write, Indirect}
 use Rattle.isa.specs.declared.access.Rights.{Rights}
 use Rattle.isa.specs.declared.access.Translation.{Translation}
 use Rattle.isa.specs.declared.access.Translation.the-variants.{NoAccess, Load, Store, LoadTable, StoreTable, Protection, PageFault, OutOfRange}

@@ -1,8 +1,8 @@
 -- Two memories that differ in foreign words alone, and one memory that is kept: what reading and storing at allowed places leaves.
 -- Assumes nothing.
-use Prim.Native.Nat.{ℕ, _/_, _<_, _≤_}
+use Prim.Native.Nat.{ℕ, _/_, _<_}
 use mathlib.Core.Path.{_≡_, refl, sym, ap, subst, _∙_}
-use mathlib.Core.Bool.{Bool, true, false}
+use mathlib.Core.Bool.{true, false}
 use mathlib.Core.List.{List, [], _∷_}
 use native.Mathlib.Omega.{arith}
 use native.Mathlib.Decide.{decLt, ℕ-discrete}
@@ -13,7 +13,7 @@ use Rattle.isa.specs.Isolation.{permitted, permittedWriting}
 use Rattle.isa.specs.declared.access.Translation.{Translation}
 use Rattle.isa.specs.declared.access.Translation.the-variants.{NoAccess, Load, Store, LoadTable, StoreTable, Protection, PageFault, OutOfRange}
 use Rattle.isa.proofs.Tests.{no-both}
-use Rattle.isolation.proofs.Accesses.{Allowed, AllAllowed, none, also}
+use Rattle.isolation.proofs.Accesses.{Allowed, AllAllowed, also}
 
 module _ (t₀ : List ℕ) (a b ρ : ℕ) where
   -- equally long, and equal at each word of a permitted page

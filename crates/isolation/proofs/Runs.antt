@@ -1,16 +1,16 @@
 -- A step of the machine, and a run, from two memories.
 -- Assumes nothing.
-use Prim.Native.Nat.{ℕ, zero, suc, _+_, _*_, _/_, _%_, _<_, _≤_}
-use mathlib.Core.Path.{_≡_, refl, sym, ap, subst, _∙_}
-use mathlib.Core.Bool.{Bool, true, false, cond, not, _&&_}
+use Prim.Native.Nat.{ℕ, zero, suc, _<_, _≤_}
+use mathlib.Core.Path.{_≡_, refl}
+use mathlib.Core.Bool.{Bool, true, false, cond, not}
 use mathlib.Core.List.{List}
 use native.Mathlib.Omega.{arith}
 use native.Mathlib.Decide.{decLt}
-use lib.ListN.{getD, length}
+use lib.ListN.{length}
 use lib.Seq.{getD-set-same, set-out}
 use lib.Dec.{eqb}
 use Rattle.isa.specs.Machine.{coreOf, withCore}
-use Rattle.isa.specs.Step.{Part, Turn, farStage, settled, step, stepIn, changeDue, isStopped, putRegister}
+use Rattle.isa.specs.Step.{Part, Turn, farStage, settled, step, stepIn, changeDue, isStopped}
 use Rattle.isa.specs.Run.{Run, ended, afterStep, runFrom}
 use Rattle.isa.specs.declared.machine.State.{State}
 use Rattle.isa.specs.declared.machine.Core.{Core}

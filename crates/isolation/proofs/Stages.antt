@@ -1,19 +1,19 @@
 -- The stages of a step from two memories. Decoding, request and completion are not looked into.
 -- Assumes nothing.
-use Prim.Native.Nat.{ℕ, zero, suc, _+_, _*_, _/_, _%_, _<_, _≤_}
-use mathlib.Core.Path.{_≡_, refl, sym, ap, subst, _∙_}
-use mathlib.Core.Bool.{Bool, true, false, cond, not, _&&_, _||_}
-use mathlib.Core.List.{List, [], _∷_}
+use Prim.Native.Nat.{ℕ, _+_, _*_, _/_, _%_, _<_, _≤_}
+use mathlib.Core.Path.{_≡_, refl, sym, _∙_}
+use mathlib.Core.Bool.{Bool, true, false, cond}
+use mathlib.Core.List.{List}
 use native.Mathlib.Omega.{arith}
 use lib.ListN.{getD, length}
-use lib.Dec.{ltb, leb, eqb}
+use lib.Dec.{ltb, eqb}
 use borrow.Author.Tests.{ltb-true, lt-leb, eq-eqb}
-use Rattle.isa.specs.Machine.{bit, withBit, reg, nextCore, withFile, withControl, withPcr, ringOf, normalTableOf, alternateTableOf}
+use Rattle.isa.specs.Machine.{bit, withBit, reg, nextCore, withFile, withControl, withPcr, ringOf}
 use Rattle.isa.specs.Flags.{bitsOf}
 use Rattle.isa.specs.System.{withPid}
 use Rattle.isa.specs.Instructions.{Completed, complete, request, indirectRequest}
-use Rattle.isa.specs.Pages.{entryAt, slotOf, Tested, testAll, translate, marked, faultOf, passes, wordAt, wordsAt, storeAll, rightsOf, lowered, loweredPcr}
-use Rattle.isa.specs.Step.{Part, part, detected, interrupted, gives, withPgs, faulted, failed, trapped, errorOf, finishedCore, finished, operandsTested, operands, indirectTested, userStage, systemStage, privileged, instructionStage, instructionOf, afterFetch, fetched, fetchOf, stepIn}
+use Rattle.isa.specs.Pages.{entryAt, slotOf, Tested, testAll, translate, marked, faultOf, passes, wordAt, wordsAt, rightsOf, lowered, loweredPcr}
+use Rattle.isa.specs.Step.{Part, part, detected, interrupted, gives, withPgs, faulted, failed, trapped, finishedCore, finished, operandsTested, operands, indirectTested, userStage, privileged, instructionStage, instructionOf, afterFetch, fetched, fetchOf, stepIn}
 use Rattle.isa.specs.declared.machine.Control.{Control}
 use Rattle.isa.specs.declared.machine.Core.{Core}
 use Rattle.isa.specs.declared.machine.File.{File}
@@ -25,10 +25,9 @@ use Rattle.isa.specs.declared.access.Translation.{Translation}
 use Rattle.isa.specs.declared.access.Translation.the-variants.{NoAccess, Load, Store, LoadTable, StoreTable, Protection, PageFault, OutOfRange}
 use Rattle.isa.specs.declared.answer.Far.{Far}
 use Rattle.isa.specs.declared.answer.Far.the-variants.{Nothing, Call, ReadRegister, WriteRegister, ReadPcr, WritePcr, StoreBlock, LoadBlock}
-use Rattle.isa.specs.declared.answer.Near.{Near}
 use Rattle.isa.proofs.Marks.{Marked}
 use Rattle.isolation.proofs.Accesses.{Held, Allowed, AllAllowed, HeldTests, core-allowed, core-marked, core-tests}
-use Rattle.isolation.proofs.Memories.{Agree, Kept, kept-refl, word-same, words-same, Stored, store-all}
+use Rattle.isolation.proofs.Memories.{Agree, Kept, kept-refl, word-same, words-same, store-all}
 
 -- what an unprivileged program leaves to be done outside its level: nothing, or a monitor call
 abbrev pub Local : Far → Type 0

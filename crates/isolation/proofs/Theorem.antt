@@ -1,28 +1,27 @@
 -- Demand 3: the theorem.
 -- Assumes nothing.
-use Prim.Native.Nat.{ℕ, zero, suc, _+_, _/_, _≤_}
-use mathlib.Core.Path.{_≡_, refl, sym, ap, subst, _∙_}
-use mathlib.Core.Bool.{Bool, true, false, cond, not}
+use Prim.Native.Nat.{ℕ, zero, suc, _/_}
+use mathlib.Core.Path.{_≡_, refl, sym, ap, _∙_}
+use mathlib.Core.Bool.{Bool, true, false}
 use mathlib.Core.List.{List}
 use native.Mathlib.Nat.{le-refl}
 use lib.ListN.{getD, length}
-use lib.Dec.{eqb}
 use borrow.Author.Tests.{eq-eqb}
-use Rattle.isa.specs.Machine.{flagOf, sizesFit, memorySize, inRange, coreOf, ringOf, normalTableOf, alternateTableOf}
+use Rattle.isa.specs.Machine.{sizesFit, ringOf, normalTableOf, alternateTableOf}
 use Rattle.isa.specs.Pages.{entryAt}
 use Rattle.isa.specs.Run.{Run, runFrom}
-use Rattle.isa.specs.Answers.{RunCall, stateAnswer, runCall, runCallBy, ranCall}
-use Rattle.isa.specs.Isolation.{startPcr, reachable, writable, differs, differingBelow, differingWords}
+use Rattle.isa.specs.Answers.{stateAnswer, runCall, runCallBy, ranCall}
+use Rattle.isa.specs.Isolation.{startPcr, reachable, writable, differs, differingBelow}
 use Rattle.isa.specs.declared.machine.State.{State}
 use Rattle.isa.specs.declared.answer.Refusal.{Refusal}
 use Rattle.isa.specs.declared.answer.Answer.{Answer}
 use Rattle.isa.specs.declared.answer.Answer.the-variants.{Done, Refused}
-use Rattle.isa.specs.declared.answer.RunAnswer.the-variants.{Ran, Refused as RunRefused}
-use Rattle.isolation.specs.Statement.{Starts, Confined, Isolated, RefusedAlike}
+use Rattle.isa.specs.declared.answer.RunAnswer.the-variants.{Refused as RunRefused}
+use Rattle.isolation.specs.Statement.{Starts, Isolated, RefusedAlike}
 use Rattle.isa.proofs.Tests.{no-both}
 use Rattle.isa.proofs.Marks.{same-entry}
 use Rattle.isa.proofs.Permits.{writing-permitted}
-use Rattle.isolation.proofs.Memories.{Agree, Kept, kept-refl}
+use Rattle.isolation.proofs.Memories.{Agree, Kept}
 use Rattle.isolation.proofs.Runs.{EvenRun, run-even}
 
 -- the answer to a start depends on memory's size alone

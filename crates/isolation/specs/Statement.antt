@@ -1,7 +1,7 @@
 -- Demand 3, document 01 "Two machines side by side": what is claimed of run to the first interrupt from two starts.
 use Prim.Native.Nat.{ℕ, _/_, _≤_}
 use mathlib.Core.Path.{_≡_}
-use mathlib.Core.Bool.{Bool, true, false}
+use mathlib.Core.Bool.{true, false}
 use mathlib.Core.List.{List}
 use lib.ListN.{getD, length}
 use Rattle.isa.specs.Machine.{ringOf}

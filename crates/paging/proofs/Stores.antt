@@ -1,10 +1,9 @@
 -- One word stored, and the words after it.
 -- Assumes nothing.
 use Prim.Native.Nat.{ℕ}
-use mathlib.Core.Path.{_≡_, refl, sym, ap, _∙_}
+use mathlib.Core.Path.{_≡_, sym, ap}
 use mathlib.Core.Bool.{true, false}
 use mathlib.Core.List.{List, [], _∷_}
-use lib.ListN.{set}
 use Rattle.isa.specs.Pages.{storeAll, Lent, lent}
 use Rattle.isa.proofs.Tests.{no-both}
 use Rattle.isa.specs.declared.access.Translation.{Translation}

@@ -1,7 +1,7 @@
 -- A worked pair: a regulator on level 1, ring 1, beside a page that is not its own. docs/ISOLATION.md tells it in prose.
 use Prim.Native.Nat.{ℕ, _+_}
 use mathlib.Core.Path.{_≡_, refl}
-use mathlib.Core.Bool.{Bool, true, false}
+use mathlib.Core.Bool.{true, false}
 use mathlib.Core.List.{List, [], _∷_, _++_}
 use lib.ListN.{getD, replicate}
 use Rattle.isa.specs.Machine.{fileAt, putFile, inRange, sizesFit}

@@ -1,6 +1,6 @@
 -- Accesses: the paging status of a fault, marks in the tables, words read and words stored.
 -- Assumes nothing.
-use Prim.Native.Nat.{ℕ, suc, _*_, _%_, _<_}
+use Prim.Native.Nat.{ℕ, _*_, _%_, _<_}
 use native.Mathlib.Omega.{arith}
 use mathlib.Core.Path.{_≡_}
 use mathlib.Core.Bool.{Bool, false, not, _&&_}

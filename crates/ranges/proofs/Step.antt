@@ -3,17 +3,16 @@
 use Prim.Native.Nat.{ℕ, _<_}
 use native.Mathlib.Omega.{arith}
 use mathlib.Core.Path.{_≡_, refl}
-use mathlib.Core.Bool.{true, false}
+use mathlib.Core.Bool.{false}
 use mathlib.Core.List.{List}
 use lib.ListN.{getD, set, length}
 use lib.Dec.{ltb, eqb}
 use lib.Bits.{bitAnd}
-use Rattle.isa.specs.Machine.{Words, reg, next, nextCore, coreOf}
-use Rattle.isa.specs.Instructions.{indirectRequest, request, complete, operand, Completed}
+use Rattle.isa.specs.Machine.{Words, reg, coreOf}
+use Rattle.isa.specs.Instructions.{indirectRequest, request, complete, Completed}
 use Rattle.isa.specs.Pages.{translate, marked, testAll, Tested, passes, wordAt, wordsAt, rightsOf}
-use Rattle.isa.specs.Step.{Part, part, failed, trapped, finishedCore, finished, operandsTested, operands, indirectTested, userStage, physicalAddress, examined, deposited, systemStage, privileged, instructionStage, executed, instructionOf, afterFetch, fetched, fetchOf, stepIn, settled, isStopped, changeDue, levelChanged, step}
+use Rattle.isa.specs.Step.{Part, part, failed, trapped, finishedCore, finished, operandsTested, operands, indirectTested, userStage, physicalAddress, examined, deposited, systemStage, privileged, instructionStage, instructionOf, afterFetch, fetched, fetchOf, stepIn, settled, isStopped, changeDue, levelChanged, step}
 use Rattle.isa.specs.declared.machine.Core.{Core}
-use Rattle.isa.specs.declared.machine.File.{File}
 use Rattle.isa.specs.declared.machine.State.{State}
 use Rattle.isa.specs.declared.machine.Register.the-variants.{T}
 use Rattle.isa.specs.declared.instruction.User.{User}
@@ -27,7 +26,7 @@ use Rattle.isa.specs.declared.answer.Far.{Far}
 use Rattle.isa.specs.declared.answer.Far.the-variants.{ReadRegister, WriteRegister, ReadPcr, WritePcr, StoreBlock, LoadBlock}
 use Rattle.isa.proofs.Tests.{either, decided}
 use Rattle.isa.proofs.Signed.{bits-below}
-use Rattle.ranges.proofs.Files.{reg-word, with-word, next-fits}
+use Rattle.ranges.proofs.Files.{reg-word, with-word}
 use Rattle.ranges.proofs.Instructions.{Completes, completes}
 use Rattle.ranges.proofs.Control.{CoreFits, file-fits, next-core-fits, gives-fits, lowered-fits, levels-fit, highest-below, controlled-fits}
 use Rattle.ranges.proofs.Pages.{FaultFits, LentFits, rights-fit, translated-fits, faulted-fits, marked-fits, tested-fits, tested-fault, stored-fits, read-words}

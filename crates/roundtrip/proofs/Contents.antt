@@ -1,13 +1,12 @@
 -- What load finds in an image that write gave: four full entries, and the bodies one after the other.
 -- Assumes nothing.
-use Prim.Native.Nat.{ℕ, zero, suc, _+_, _*_, _/_, _%_, _≤_}
-use mathlib.Core.Path.{_≡_, refl, sym, ap, subst, _∙_}
-use mathlib.Core.Bool.{Bool, true, false, cond}
+use Prim.Native.Nat.{ℕ, _+_, _≤_}
+use mathlib.Core.Path.{_≡_, refl, sym, ap, _∙_}
 use mathlib.Core.List.{List, [], _∷_, _++_, append-nil}
 use native.Mathlib.Omega.{arith}
 use native.Mathlib.Nat.{div-add-mod'}
-use lib.ListN.{getD, take, drop, length, replicate, length-append, length-replicate, drop-of-length-le}
-use lib.Seq.{paste, take-at, drop-at, take-all}
+use lib.ListN.{drop, length, replicate, length-append, length-replicate, drop-of-length-le}
+use lib.Seq.{paste, take-at, drop-at}
 use Rattle.isa.specs.Machine.{controlWords}
 use Rattle.isa.specs.Images.{Entry, entryCount, contents, bodies, placed, loadedWords, imageOf}
 use Rattle.isa.specs.declared.machine.State.{State}

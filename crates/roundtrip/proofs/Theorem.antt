@@ -1,25 +1,23 @@
 -- Write, then load: the same machine. And the order of load's refusals.
 -- Assumes nothing.
-use Prim.Native.Nat.{ℕ, zero, suc, _+_, _*_, _/_, _%_, _≤_}
-use mathlib.Core.Path.{_≡_, refl, sym, ap, subst, _∙_}
-use mathlib.Core.Bool.{Bool, true, false, cond, not, _&&_}
-use mathlib.Core.List.{List, [], _∷_, _++_}
+use Prim.Native.Nat.{ℕ, _+_, _≤_}
+use mathlib.Core.Path.{_≡_, refl, sym, ap, _∙_}
+use mathlib.Core.Bool.{true}
+use mathlib.Core.List.{List, [], _++_}
 use native.Mathlib.Omega.{arith}
-use native.Mathlib.Nat.{le-refl}
-use lib.ListN.{getD, take, drop, length, length-append}
+use lib.ListN.{take, drop, length, length-append}
 use lib.Seq.{take-at}
-use lib.Dec.{ltb, leb, eqb}
+use lib.Dec.{eqb}
 use borrow.Author.Tests.{le-ltb, lt-ltb, le-leb, eq-eqb, eqb-true}
-use Rattle.isa.specs.Machine.{controlWords, stateOf, sizesFit, memorySize, inRange}
-use Rattle.isa.specs.Images.{Entry, contentsFit, contents, bodies, entriesAnswer, meets, sizeOf, namedWords, loadedState, loadedWords, contentsWords, imageOf, imageSize}
-use Rattle.isa.specs.Answers.{LoadCall, loadCall, loadCallBy, loadAnswer, bodiesAnswer, stateAnswer, writeAnswer, writtenOutput}
+use Rattle.isa.specs.Machine.{stateOf, sizesFit, memorySize, inRange}
+use Rattle.isa.specs.Images.{contentsFit, contents, bodies, entriesAnswer, meets, namedWords, loadedState, loadedWords, contentsWords, imageOf, imageSize}
+use Rattle.isa.specs.Answers.{LoadCall, loadCall, loadCallBy, loadAnswer, stateAnswer, writeAnswer, writtenOutput}
 use Rattle.isa.specs.declared.machine.State.{State}
-use Rattle.isa.specs.declared.answer.Refusal.{Refusal}
 use Rattle.isa.specs.declared.answer.Answer.{Answer}
 use Rattle.isa.specs.declared.answer.Answer.the-variants.{Done, Refused}
 use Rattle.isa.proofs.Tests.{and-both, and-right}
 use Rattle.roundtrip.specs.Statement.{Machine, Loads, RoundTrip, LoadOrder, Either, machine, refusal}
-use Rattle.roundtrip.proofs.Contents.{four, full, afterMemory, entry-count, contents-four, bodies-all, bodies-length, loaded-memory, loaded-registers, loaded-control, loaded-tables}
+use Rattle.roundtrip.proofs.Contents.{four, afterMemory, entry-count, contents-four, bodies-all, bodies-length, loaded-memory, loaded-registers, loaded-control, loaded-tables}
 
 -- ---- the order of load's refusals
 

@@ -1,8 +1,8 @@
 -- Demand 2: "Writing an image and loading it into as much memory gives the same machine." And what load answers, in which order.
 use Prim.Native.Nat.{ℕ, _≤_}
 use mathlib.Core.Path.{_≡_}
-use mathlib.Core.Bool.{Bool, true, false}
-use mathlib.Core.List.{List, [], _∷_}
+use mathlib.Core.Bool.{true, false}
+use mathlib.Core.List.{List, []}
 use lib.ListN.{take, length}
 use Rattle.isa.specs.Machine.{Typed, inRange, sizesFit}
 use Rattle.isa.specs.Images.{imageOf, imageSize, contents, bodies, contentsFit, entriesAnswer, namedWords, loadedState, loadedWords}
@@ -10,7 +10,6 @@ use Rattle.isa.specs.Answers.{LoadCall, loadCall, loadAnswer, writtenOutput}
 use Rattle.isa.specs.declared.machine.State.{State}
 use Rattle.isa.specs.declared.answer.Refusal.{Refusal}
 use Rattle.isa.specs.declared.answer.Refusal.the-variants.{Sizes, State as StateRange, Contents, Bodies}
-use Rattle.isa.specs.declared.answer.Answer.{Answer}
 use Rattle.isa.specs.declared.answer.Answer.the-variants.{Done, Refused}
 use lib.Dec.{eqb}
 

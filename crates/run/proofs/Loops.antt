@@ -1,14 +1,14 @@
 -- Where a run stands after so many steps, how it goes on, and how it ends.
 -- Assumes nothing.
 use Prim.Native.Nat.{ℕ, zero, suc, _+_, _-_, _<_, _≤_}
-use mathlib.Core.Path.{_≡_, refl, sym, ap, subst, _∙_}
+use mathlib.Core.Path.{_≡_, refl, sym, ap, _∙_}
 use mathlib.Core.Bool.{Bool, true, false, cond, not, _&&_}
 use mathlib.Core.List.{List}
 use native.Mathlib.Omega.{arith}
 use lib.Dec.{eqb}
 use Rattle.isa.specs.Machine.{pack}
-use Rattle.isa.specs.Step.{Turn, turn, step, isStopped, changeDue}
-use Rattle.isa.specs.Run.{Run, ended, afterStep, runFrom}
+use Rattle.isa.specs.Step.{Turn, turn, step, isStopped}
+use Rattle.isa.specs.Run.{ended, runFrom}
 use Rattle.isa.proofs.Runs.{run-stopped}
 use Rattle.isa.proofs.Tests.{no-both, and-left}
 use Rattle.isa.specs.declared.answer.Reason.{Reason}

@@ -6,7 +6,7 @@ use mathlib.Core.Bool.{Bool, true, false, cond}
 use mathlib.Core.List.{List, [], _∷_}
 use lib.IntN.{ℤ}
 use lib.ListN.{length}
-use lib.Dec.{T, ltb, eqb}
+use lib.Dec.{T, ltb}
 use types.Run.{OneOf, miss}
 use denote.Enum.Declared.{tagOf}
 use Rattle.isa.proofs.instruction.User.{the-type}
@@ -25,7 +25,6 @@ use Rattle.isa.specs.declared.instruction.MemoryOp.{MemoryOp}
 use Rattle.isa.specs.declared.instruction.Mode.{Mode}
 use Rattle.isa.specs.declared.instruction.User.{User}
 use Rattle.isa.specs.declared.instruction.User.the-variants.{Memory, Jump, Skip, Logic, RegisterAdd, NoOperation, Shift, SetArgument, AddArgument, Bit, LoadByte, StoreByte, Mix3, Multiply, Divide}
-use Rattle.isa.specs.declared.machine.Control.{Control}
 use Rattle.isa.specs.declared.machine.Core.{Core}
 use Rattle.isa.specs.declared.machine.File.{File}
 use Rattle.execute.specs.Effects.{fileOf, applied, completed}

@@ -8,7 +8,6 @@ use native.Mathlib.Nat.{add-zero}
 use native.Mathlib.Numerals.{add-one}
 use lib.ListN.{length, getD, set, take, drop, length-take, length-drop}
 use lib.Seq.{take-suc, take-suc-set, take-all, drop-length}
-use lib.Dec.{ltb}
 use borrow.Author.Tests.{lt-ltb, le-ltb}
 use Rattle.isa.specs.Answers.{LoadCall, loadCall}
 use Rattle.isa.specs.declared.answer.Answer.{Answer}
@@ -17,7 +16,7 @@ use Rattle.image.specs.Loading.{callOf}
 use Rattle.image.specs.declared.Loaded.{Loaded}
 use Rattle.turning.specs.Turn.{loadedBy, clearedState, imageTurned}
 use Rattle.turning.specs.Bytes.{wordsOf}
-use Rattle.turning.specs.Text.{decimalBefore, decimal, digit}
+use Rattle.turning.specs.Text.{decimalBefore, digit}
 
 -- ---- words
 

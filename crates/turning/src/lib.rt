@@ -1,6 +1,6 @@
 // `turn` of document 01: from the bytes of an image to the text that is printed.
 ghost use mathlib.Core.Path.{_≡_};
-ghost use Rattle.turning.specs.Turn.{endOf, ranBy, ranFrom, clearedState, imageTurned, turned};
+ghost use Rattle.turning.specs.Turn.{endOf, ranFrom, clearedState, imageTurned, turned};
 ghost use Rattle.turning.specs.Turn.{register as Turn·register};
 use crate::bytes::put_words;
 use isa::answer::Answer;

@@ -1,6 +1,6 @@
 // Shifts of a word and of a double word by single places, in one way for both widths.
 ghost use mathlib.Core.Path.{_≡_};
-ghost use Prim.Native.Nat.{_<_, _≤_};
+ghost use Prim.Native.Nat.{_<_};
 ghost use Rattle.isa.specs.Flags.{lowerInput, upperInput, leftOnce, rightOnce, leftBy, rightBy, shiftBy};
 ghost use Rattle.word.specs.Results.{shiftedOf, InWidth};
 use isa::instruction::ShiftKind;

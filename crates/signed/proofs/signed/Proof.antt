@@ -1,7 +1,7 @@
 -- The sixteen bits, by the sign bit. The difference is taken in 32 bits and fits 16.
 -- Assumes nothing.
 use native.Mathlib.Omega.{arith}
-use mathlib.Core.Path.{refl, sym, _∙_, subst}
+use mathlib.Core.Path.{sym, _∙_, subst}
 use borrow.Author.Needs.{needs}
 use mir.Syntax.{w16, w32}
 use mir.Val.{SFits}

@@ -38,7 +38,8 @@ slice-aggregate-copy-3 c = search needs
 
 copy-requires-3 : tie.Need-copy-requires-3
 copy-requires-3 c κs =
-    let k = c .before .before .before .before .before .before .before .before .before .before .before .before .before .before .before .before in
+    let second = c .before .before .before .before .before .before .before .before in
+    let k = second .before .before .before .before .before .before .before .before in
     let e : length (k .args .s .pcr) ≡ 16 = sym (length-map (k .args .s .pcr) _) ∙ k .good .0 .1 .1 .1 .1 .1 .0 .1 .0 .1 in
     (omega (arith, k .pre), omega (arith, e))
 

@@ -28,9 +28,11 @@ same-length c = search needs
 
 returns : tie.Need-returns
 returns c =
-    let a = c .before .before .before .before .before .before .before .before .before .before .before .before .before .before .args in
-    let x = c .before .before .before .before .before .before .before .before .before .before .before .translate in
-    let y = c .before .before .before .before .translate2 in
+    let second = c .before .before .before .before in
+    let first = second .before .before .before .before .before .before .before in
+    let a = first .before .before .before .args in
+    let x = first .translate in
+    let y = second .translate2 in
     let f : Found (a .tables .now) (a .words) (a .r) (access (a .k) true (a .a)) (x .result) (c .before .before .before .before .before .before .before .before .fault-of .result) (x .last .0) = record { place = x .ensures .0; marks = x .ensures .1; fault = c .before .before .before .before .before .before .before .before .fault-of .ensures } in
     let g : Found (x .last .0) (a .words) (a .r) (access (a .k) true (sum (a .a) 1)) (y .result) (c .before .fault-of2 .result) (y .last .0) = record { place = simp (c .before .before .before .before .before .wrapping-add-u16 .ensures) at (y .ensures .0); marks = simp (c .before .before .before .before .before .wrapping-add-u16 .ensures) at (y .ensures .1); fault = c .before .fault-of2 .ensures } in
     found-passed f (c .before .before .before .before .before .before .before .if1 .taken) (found-passed g (c .if2 .taken) (done (found-within f, (found-within g, tt))))
@@ -40,9 +42,11 @@ same-length-2 c = search needs
 
 returns-2 : tie.Need-returns-2
 returns-2 c =
-    let a = c .before .before .before .before .before .before .before .before .before .before .before .before .before .before .args in
-    let x = c .before .before .before .before .before .before .before .before .before .before .before .translate in
-    let y = c .before .before .before .before .translate2 in
+    let second = c .before .before .before .before in
+    let first = second .before .before .before .before .before .before .before in
+    let a = first .before .before .before .args in
+    let x = first .translate in
+    let y = second .translate2 in
     let f : Found (a .tables .now) (a .words) (a .r) (access (a .k) true (a .a)) (x .result) (c .before .before .before .before .before .before .before .before .fault-of .result) (x .last .0) = record { place = x .ensures .0; marks = x .ensures .1; fault = c .before .before .before .before .before .before .before .before .fault-of .ensures } in
     let g : Found (x .last .0) (a .words) (a .r) (access (a .k) true (sum (a .a) 1)) (y .result) (c .before .fault-of2 .result) (y .last .0) = record { place = simp (c .before .before .before .before .before .wrapping-add-u16 .ensures) at (y .ensures .0); marks = simp (c .before .before .before .before .before .wrapping-add-u16 .ensures) at (y .ensures .1); fault = c .before .fault-of2 .ensures } in
     found-passed f (c .before .before .before .before .before .before .before .if1 .taken) (found-failed g (c .if2 .left) (found-within f, (found-within g, tt)))

@@ -30,7 +30,7 @@ returns c =
     let then = c .before .before .before .before .before .before .before .before .before in
     let at-store-half = then .before .before in
     let start = at-store-half .before .before .before .before .before .before .before in
-    let w = c .before .before .before .before .before .before .before .before .before .before .before .before .before .before .before .before .before .before .args .w in
+    let w = start .args .w in
     c .before .before .before .before .store-half2 .ensures [] [] ∙ at-store-half .store-half .ensures (halfPlaces (start .args .b .second)) (w .d ∷ w .l ∷ w .sts ∷ w .b ∷ [])
 
 pub store-block-spec : {M : Type 1} → statement M

@@ -32,7 +32,8 @@ put-block-requires c κs = search needs
 reloaded-requires : tie.Need-reloaded-requires
 reloaded-requires c κs =
     let at-put-file = c .before .before .before .before .before .before .before .before .before in
-    let h = c .before .before .before .before .before .before .before .before .before .before .before .before .before .before .before .before .before .before .before .before .before .pre in
+    let asked = at-put-file .before .before .before .before .before .before in
+    let h = asked .before .before .before .before .before .before .pre in
     (h .0, c .before .before .before .put-block .kept .1 .0 ∙ at-put-file .put-file .kept .0 ∙ h .1 .0)
 
 same-length : tie.Need-same-length

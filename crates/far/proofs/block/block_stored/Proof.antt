@@ -55,7 +55,7 @@ returns : tie.Need-returns
 returns c =
     let then = c .before .before .before .before .before .before .before .before .before in
     let at-put-file = then .before .before in
-    let i = c .before .before .before .before .before .before .before .before .before .before .before .before .before .before in
+    let i = at-put-file .before .before .before in
     let x = i .before .before .before .before .tested in
     let k = i .before .before .before .before .before .before .before .before .before in
     let a = k .args in

@@ -32,8 +32,12 @@ put-other-requires-8 c κs = c .before .before .before .put-other7 .kept .1 .0 �
 
 same-length : tie.Need-same-length
 same-length c =
-    let k = c .before .before in
-    k .put-other8 .kept .1 .0 ∙ put-other-requires-8 (k .before) (k .put-other8 .lifetimes) ∙ sym (k .before .before .before .before .before .before .before .before .before .before .before .before .before .before .before .before .before .before .before .before .before .before .before .before .before .before .before .before .before .before .before .pre)
+    let k8 = c .before .before in
+    let k6 = k8 .before .before .before .before .before .before .before .before in
+    let k4 = k6 .before .before .before .before .before .before .before .before in
+    let k2 = k4 .before .before .before .before .before .before .before .before in
+    let start = k2 .before .before .before .before .before .before .before in
+    k8 .put-other8 .kept .1 .0 ∙ put-other-requires-8 (k8 .before) (k8 .put-other8 .lifetimes) ∙ sym (start .pre)
 
 returns : tie.Need-returns
 returns c =

@@ -143,7 +143,7 @@ unfolding farStage
 returns-7 c =
     let then = c .before .before .before .before .before .before .before .before .before in
     let at-far = then .before .before in
-    let k = c .before .before .before .before .before .before .before .before .before .before .before .before .before .before .before .before .before .before in
+    let k = at-far .before .before .before .before .before .before .before in
     simp (at-far .far4 .given .1) (c .before .before .before .before .before .before .block-stored .ensures (k .args .pcrs .now) (k .pre .1 .1 .0))
 
 same-length-9 : tie.Need-same-length-9
@@ -159,7 +159,7 @@ returns-8 : tie.Need-returns-8
 unfolding farStage
 returns-8 c =
     let at-far = c .before .before .before .before .before .before .before .before .before in
-    let k = c .before .before .before .before .before .before .before .before .before .before .before .before .before .before .before .before in
+    let k = at-far .before .before .before .before .before .before .before in
     simp (at-far .far5 .given .1) (c .before .before .before .before .block-loaded .ensures (k .args .pcrs .now) (k .pre .1 .1 .0))
 
 pub settle-spec : {M : Type 1} → statement M

@@ -1,6 +1,6 @@
 -- By the answer: a run from a state in range, or the refusal.
 -- Assumes nothing.
-use mathlib.Core.Path.{_≡_, refl, sym, ap, _∙_}
+use mathlib.Core.Path.{_≡_, sym, ap, _∙_}
 use Rattle.isa.specs.Answers.{stateAnswer, ranCall, runCallBy, runCall}
 use Rattle.isa.specs.declared.answer.Answer.{Answer}
 use Rattle.isa.specs.declared.answer.Answer.the-variants.{Done}
