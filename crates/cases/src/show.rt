@@ -11,11 +11,12 @@ fn added(h: u64, w: u16) -> u64
     (h * 1000003 + w as u64 + 1) % 4294967291
 }
 
-// The checksum of words: each counts by its place.
-pub(crate) fn sum(words: &[u16]) -> u64
+// The checksum of words after others: each counts by its place.
+fn sum_on(before: u64, words: &[u16]) -> u64
+    requires { ⌜ before < 4294967291 ⌝ }
     ensures { λ r. ⌜ r < 4294967291 ⌝ }
 {
-    let mut h = 1;
+    let mut h = before;
     let mut i = 0;
     while i < words.len() {
         h = added(h, words[i]);
@@ -24,38 +25,10 @@ pub(crate) fn sum(words: &[u16]) -> u64
     h
 }
 
-// The control words in image order.
-fn control_words(s: State) -> [u16; 26] {
-    let c = s.control;
-    let p = s.pcr;
-    [
-        s.level,
-        c.interrupts,
-        c.paging,
-        c.stopped,
-        c.pid,
-        c.pie,
-        c.pvl,
-        c.iid,
-        c.iie,
-        c.pgs,
-        p[0],
-        p[1],
-        p[2],
-        p[3],
-        p[4],
-        p[5],
-        p[6],
-        p[7],
-        p[8],
-        p[9],
-        p[10],
-        p[11],
-        p[12],
-        p[13],
-        p[14],
-        p[15],
-    ]
+pub(crate) fn sum(words: &[u16]) -> u64
+    ensures { λ r. ⌜ r < 4294967291 ⌝ }
+{
+    sum_on(1, words)
 }
 
 fn digit(w: u16) -> u8 {
@@ -104,12 +77,13 @@ fn running(s: State) {
 pub(crate) fn show(told: Told, mem: &[u16], tables: &[u16]) {
     let s = told.state;
     let regs = s.regs;
-    let controls = control_words(s);
+    let pcr = s.pcr;
+    let scalars = writing::scalars(s);
     io::print_decimal(1, told.refusal);
     number(told.first);
     number(told.second);
     checksum(sum(&regs));
-    checksum(sum(&controls));
+    checksum(sum_on(sum(&scalars), &pcr));
     checksum(sum(tables));
     checksum(sum(mem));
     number(s.level as u64);

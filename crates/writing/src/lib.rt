@@ -49,7 +49,7 @@ fn contents(n: usize) -> [u16; 21]
 }
 
 // The control words 0 to 9.
-fn scalars(s: State) -> [u16; 10]
+pub fn scalars(s: State) -> [u16; 10]
     ensures { λ r. ⌜ r ≡ s .level ∷ s .control .interrupts ∷ s .control .paging ∷ s .control .stopped ∷ s .control .pid ∷ s .control .pie ∷ s .control .pvl ∷ s .control .iid ∷ s .control .iie ∷ s .control .pgs ∷ [] ⌝ }
 {
     let c = s.control;

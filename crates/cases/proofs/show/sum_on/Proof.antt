@@ -3,14 +3,14 @@
 use Prim.Native.Nat.{_≤_, _<_, _-_}
 use lib.ListN.{length}
 use borrow.Author.Needs.{needs}
-use Rattle.cases.proofs.show.sum.Statement.{statement}
-use Rattle.cases.proofs.show.sum.Tie as tie
+use Rattle.cases.proofs.show.sum_on.Statement.{statement}
+use Rattle.cases.proofs.show.sum_on.Tie as tie
 
 abbrev Inv-loop : tie.InvT-loop
-Inv-loop words h₀ i₀ h i = (i ≤ length words) × (h < 4294967291)
+Inv-loop before words h₀ i₀ h i = (i ≤ length words) × (h < 4294967291)
 
 abbrev μ-loop : tie.MeasureT-loop
-μ-loop words h₀ i₀ h i = length words - i
+μ-loop before words h₀ i₀ h i = length words - i
 
 loop-holds : tie.Need-loop-holds Inv-loop μ-loop
 loop-holds c = search needs
@@ -36,8 +36,8 @@ loop-again c = search needs
 returns : tie.Need-returns Inv-loop μ-loop
 returns c = search needs
 
-pub sum-spec : {M : Type 1} → statement M
-sum-spec =
+pub sum-on-spec : {M : Type 1} → statement M
+sum-on-spec =
     tie.close
     (tie.spec
     Inv-loop
