@@ -2,7 +2,7 @@
 -- Assumes nothing.
 use Prim.Native.Nat.{ℕ, suc, _+_, _-_, _<_}
 use mathlib.Core.Path.{_≡_, refl, sym, ap, _∙_}
-use mathlib.Core.Bool.{Bool, true, false, not, _&&_}
+use mathlib.Core.Bool.{Bool, true, false, not, _&&_, _||_}
 use mathlib.Core.List.{List}
 use native.Mathlib.Omega.{arith}
 use lib.ListN.{length}
@@ -48,6 +48,15 @@ pub goes-on : (first : Bool) (n j before : ℕ) (s : State) (m t : List ℕ)
     → goesOn first n j before (turn s 0 m t) ≡ runFrom first (n - suc before) (j + suc before) s m t
 goes-on true n j before s m t = let e : suc (j + before) ≡ j + suc before = omega arith in ap (λ (x : ℕ). runFrom true (n - suc before) x s m t) e
 goes-on false n j before s m t = let e : suc (j + before) ≡ j + suc before = omega arith in ap (λ (x : ℕ). runFrom false (n - suc before) x s m t) e
+
+-- neither of two tests
+pub neither-left : (x y : Bool) → (x || y) ≡ false → x ≡ false
+neither-left true y h = h
+neither-left false y h = refl
+
+pub neither-right : (x y : Bool) → (x || y) ≡ false → y ≡ false
+neither-right true y h = absurd (no-both (sym h))
+neither-right false y h = h
 
 pub not-false : (b : Bool) → not b ≡ false → b ≡ true
 not-false true h = refl

@@ -1,8 +1,11 @@
 // Steps of the running level over its registers, PCR, memory and tables alone. No control word changes between them, so that what
 // is tested before a step need not be tested again.
 ghost use mathlib.Core.Path.{_≡_};
+ghost use mathlib.Core.Bool.{not, _||_};
 ghost use Prim.Native.Nat.{_<_};
+ghost use lib.Dec.{eqb};
 ghost use lib.ListN.{length};
+ghost use Rattle.event.specs.Events.{isFine};
 ghost use Rattle.execute.specs.Effects.{fileOf, applied};
 ghost use Rattle.burst.specs.Bursts.{QuietSteps, QuietStep};
 use event::Event;
@@ -46,7 +49,17 @@ fn burst_of(words: Registers, pcr: u16, before: u64, event: Event) -> Burst
     }
 }
 
-// At most n steps, up to the first whose event is not fine.
+// A burst is over with a step whose event is not fine, or that lowered the ring: within a burst the PCR stays.
+fn over(e: Event, q: u16, p: u16) -> bool
+    ensures { λ b. ⌜ b ≡ (not (isFine e) || not (eqb q p)) ⌝ }
+{
+    if event::ends(e) {
+        return true;
+    }
+    q != p
+}
+
+// At most n steps, up to the first that ends the burst.
 pub fn quiet_steps(
     f: File,
     p: u16,
@@ -62,18 +75,17 @@ pub fn quiet_steps(
     ensures { λ b. ⌜ QuietStep f p paging (now (mem .entry)) (now (tables .entry)) b (now (mem .exit)) (now (tables .exit)) ⌝ }
 {
     let mut file = f.words;
-    let mut pcr = p;
     let mut before: u64 = 0;
     while before < n {
-        let q = step_in(&mut file, pcr, paging, mem, tables);
+        let q = step_in(&mut file, p, paging, mem, tables);
         let e = q.effect;
         let event = q.event;
+        let pcr = q.pcr;
         apply(&mut file, e);
-        pcr = q.pcr;
-        if event::ends(event) {
+        if over(event, pcr, p) {
             return burst_of(file, pcr, before, event);
         }
         before += 1;
     }
-    burst_of(file, pcr, n - 1, Event::Fine)
+    burst_of(file, p, n - 1, Event::Fine)
 }

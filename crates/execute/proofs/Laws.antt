@@ -8,7 +8,7 @@ use mathlib.Core.List.{List, [], _∷_}
 use native.Mathlib.Omega.{arith}
 use lib.IntN.{ℤ}
 use lib.ListN.{getD, set}
-use lib.Seq.{set-getD, set-comm, getD-set-other}
+use lib.Seq.{set-getD, set-set, set-comm, getD-set-other}
 use lib.Dec.{leb}
 use borrow.Author.Tests.{eq-eqb}
 use Rattle.isa.proofs.Tests.{no-both}
@@ -89,6 +89,21 @@ same f r x h = rw h (ap fileOf (set-getD (f .words) (number r) 0))
 pub same-after : (f : File) (q r : Register) (v x : ℕ) → number q ≢ number r → x ≡ reg f r → withReg (withReg f q v) r x ≡ withReg f q v
 same-after f q r v x n h =
     ap fileOf (set-comm (f .words) (number q) (number r) v x n) ∙ ap (λ (g : File). withReg g q v) (same f r x h)
+
+-- an effect that keeps STS and T: P takes its value first, and the register r is written twice
+pub turns :
+    (f : File) (p : ℕ) (r : Register) (v s t : ℕ) → s ≡ reg f Sts → t ≡ reg f T → number r ≢ 2
+    → completed (record { p = p; sts = s; t = t; second = r; other = v; first = r; value = v; error = false }) f
+    ≡ loads (withReg (withReg f r v) P p)
+unfolding completed applied
+turns f p r v s t hs ht n =
+    let twice : File → File = λ g. withReg (withReg g r v) r v in
+    let sts = same-after f P Sts p s (λ e. omega arith) hs in
+    let keeps-t = same-after f P T p t (λ e. omega arith) ht in
+    ap (λ (g : File). loads (twice (withReg g T t))) sts
+    ∙ ap (λ (g : File). loads (twice g)) keeps-t
+    ∙ ap (λ (l : List ℕ). loads (fileOf l)) (set-set (set (f .words) 2 p) (number r) v v)
+    ∙ ap (λ (l : List ℕ). loads (fileOf l)) (set-comm (f .words) 2 (number r) p v (λ e. n (sym e)))
 
 -- ---- bits
 

@@ -1,10 +1,11 @@
 // What an instruction does to the running level's registers.
 ghost use mathlib.Core.Path.{_≡_};
 ghost use Prim.Native.Nat.{_<_};
-ghost use Rattle.isa.specs.Machine.{reg, withReg};
+ghost use mathlib.Core.Logic.{_≢_};
+ghost use Rattle.isa.specs.Machine.{reg, withReg, number};
 ghost use Rattle.isa.specs.Flags.{adder};
 ghost use Rattle.isa.specs.Instructions.{loads, skipIf, takes};
-ghost use Rattle.isa.specs.declared.machine.Register.the-variants.{Sts};
+ghost use Rattle.isa.specs.declared.machine.Register.the-variants.{Sts, P};
 ghost use Rattle.execute.specs.Effects.{fileOf, completed};
 use isa::machine::Register;
 use isa::machine::Registers;
@@ -74,13 +75,37 @@ pub fn one(f: &Registers, r: Register, v: u16) -> Effect
 pub fn none(f: &Registers) -> Effect
     ensures { λ e. ⌜ completed e (fileOf (now (f .entry))) ≡ loads (fileOf (now (f .entry))) ⌝ }
 {
-    one(f, Register::P, reg(f, Register::P))
+    one(f, Register::T, reg(f, Register::T))
 }
 
 pub fn only_flags(f: &Registers, sts: u16) -> Effect
     ensures { λ e. ⌜ completed e (fileOf (now (f .entry))) ≡ loads (withReg (fileOf (now (f .entry))) Sts sts) ⌝ }
 {
-    with_flags(f, sts, Register::P, reg(f, Register::P))
+    with_flags(f, sts, Register::T, reg(f, Register::T))
+}
+
+// A register other than P takes a value, and P. P is written at its own place, so that the next fetch need not wait for the others.
+pub fn goes_with(f: &Registers, p: u16, r: Register, v: u16) -> Effect
+    requires { ⌜ number r ≢ 2 ⌝ }
+    ensures { λ e. ⌜ completed e (fileOf (now (f .entry))) ≡ loads (withReg (withReg (fileOf (now (f .entry))) r v) P p) ⌝ }
+{
+    Effect {
+        p: p,
+        sts: reg(f, Register::Sts),
+        t: reg(f, Register::T),
+        second: r,
+        other: v,
+        first: r,
+        value: v,
+        error: false,
+    }
+}
+
+// P takes a value.
+pub fn goes(f: &Registers, p: u16) -> Effect
+    ensures { λ e. ⌜ completed e (fileOf (now (f .entry))) ≡ loads (withReg (fileOf (now (f .entry))) P p) ⌝ }
+{
+    goes_with(f, p, Register::T, reg(f, Register::T))
 }
 
 // The next instruction is skipped, or not.
@@ -88,11 +113,7 @@ pub fn skip_if(c: bool, f: &Registers) -> Effect
     ensures { λ e. ⌜ completed e (fileOf (now (f .entry))) ≡ loads (skipIf c (fileOf (now (f .entry)))) ⌝ }
 {
     if c {
-        return one(
-            f,
-            Register::P,
-            std::num::wrapping_add_u16(reg(f, Register::P), 1),
-        );
+        return goes(f, std::num::wrapping_add_u16(reg(f, Register::P), 1));
     }
     none(f)
 }

@@ -21,7 +21,7 @@ fn jump_if(c: bool, a: u16, f: &Registers) -> Effect
     ensures { λ e. ⌜ completed e (fileOf (now (f .entry))) ≡ loads (jumpIf c a (fileOf (now (f .entry)))) ⌝ }
 {
     if c {
-        return effect::one(f, Register::P, a);
+        return effect::goes(f, a);
     }
     effect::none(f)
 }
@@ -31,7 +31,7 @@ fn count_x(c: bool, x: u16, a: u16, f: &Registers) -> Effect
     ensures { λ e. ⌜ completed e (fileOf (now (f .entry))) ≡ loads (jumpIf c a (withReg (fileOf (now (f .entry))) X x)) ⌝ }
 {
     if c {
-        return effect::two(f, Register::P, a, Register::X, x);
+        return effect::goes_with(f, a, Register::X, x);
     }
     effect::one(f, Register::X, x)
 }

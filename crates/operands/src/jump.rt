@@ -14,8 +14,8 @@ pub fn jumps(o: MemoryOp, f: &Registers, a: u16) -> Effect
     ensures { λ e. ⌜ completed e (fileOf (now (f .entry))) ≡ jumpTaken o (fileOf (now (f .entry))) a ⌝ }
 {
     match o {
-        MemoryOp::Jmp => effect::one(f, Register::P, a),
-        MemoryOp::Jpl => effect::two(f, Register::P, a, Register::L, reg(f, Register::P)),
+        MemoryOp::Jmp => effect::goes(f, a),
+        MemoryOp::Jpl => effect::goes_with(f, a, Register::L, reg(f, Register::P)),
         MemoryOp::Stz => effect::none(f),
         MemoryOp::Sta => effect::none(f),
         MemoryOp::Stt => effect::none(f),

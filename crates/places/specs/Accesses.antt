@@ -1,29 +1,20 @@
--- What a request and its outcome mean, as accesses and places of the isa's definitions.
+-- Several accesses and their outcome, as accesses and places of the isa's definitions.
 use Prim.Native.Nat.{ℕ}
 use mathlib.Core.Bool.{Bool, cond}
 use mathlib.Core.List.{List, [], _∷_}
 use lib.Dec.{eqb}
-use Rattle.isa.specs.Instructions.{oneWord, twoWords, threeWords, readAndWrite}
+use Rattle.isa.specs.Instructions.{oneWord, twoWords, threeWords}
 use Rattle.isa.specs.declared.access.Access.{Access}
 use Rattle.isa.specs.declared.access.Kind.{Kind}
-use Rattle.isa.specs.declared.access.Kind.the-variants.{Read as ReadKind, Write as WriteKind}
 use Rattle.isa.specs.declared.access.Translation.{Translation}
 use Rattle.isa.specs.declared.access.Translation.the-variants.{NoAccess}
-use Rattle.places.specs.declared.request.Request.{Request}
-use Rattle.places.specs.declared.request.Request.the-variants.{Idle, Read, Write, Update}
-use Rattle.places.specs.declared.request.Places.{Places}
-use Rattle.places.specs.declared.request.Places.the-variants.{Idle as NoPlace, One, Two, Three, Fault}
+use Rattle.places.specs.declared.outcome.Places.{Places}
+use Rattle.places.specs.declared.outcome.Places.the-variants.{Idle as NoPlace, One, Two, Three, Fault}
 use Rattle.isa.specs.declared.access.Triple.{Triple}
 
 -- so many words from an address on: one, two, or else three
 abbrev pub wordsFrom : Kind → Bool → ℕ → ℕ → List Access
 wordsFrom k alternate a n = cond (eqb n 1) (oneWord k alternate a) (cond (eqb n 2) (twoWords k alternate a) (threeWords k alternate a))
-
-abbrev pub accessesOf : Request → List Access
-accessesOf Idle = []
-accessesOf (Read alternate a n) = wordsFrom ReadKind alternate a n
-accessesOf (Write alternate a n) = wordsFrom WriteKind alternate a n
-accessesOf (Update alternate a) = readAndWrite alternate a
 
 -- the places of accesses that all passed, and the access that failed
 abbrev pub placesOf : Places → List Translation

@@ -1,4 +1,4 @@
-// The accesses of a request are tested in order, up to the first that fails.
+// The accesses that an instruction asks for are tested in order, up to the first that fails.
 ghost use mathlib.Core.Path.{_≡_};
 ghost use mathlib.Core.Bool.{cond};
 ghost use mathlib.Core.List.{[], _∷_};
@@ -9,9 +9,8 @@ ghost use Rattle.isa.specs.Address.{access, sum};
 ghost use Rattle.isa.specs.Instructions.{readAndWrite};
 ghost use Rattle.paging.specs.Within.{Within};
 ghost use Rattle.paging.specs.Outcome.{Outcome};
-ghost use Rattle.places.specs.Accesses.{accessesOf, wordsFrom, placesOf, faultIn};
-use crate::request::Places;
-use crate::request::Request;
+ghost use Rattle.places.specs.Accesses.{wordsFrom, placesOf, faultIn};
+use crate::outcome::Places;
 use isa::access::Kind;
 use isa::access::Rights;
 use isa::access::Translation;
@@ -76,7 +75,7 @@ fn second(
 }
 
 // So many words of one kind from an address on.
-fn several(
+pub fn several(
     tables: &mut [u16],
     words: usize,
     r: Rights,
@@ -110,7 +109,7 @@ fn several(
 }
 
 // A word to read and then to write.
-fn updated(tables: &mut [u16], words: usize, r: Rights, alternate: bool, a: u16) -> Places
+pub fn updated(tables: &mut [u16], words: usize, r: Rights, alternate: bool, a: u16) -> Places
     requires { ⌜ (r .normal < 4) × (r .alternate < 4) ⌝ }
     requires { ⌜ length (now tables) ≡ 256 ⌝ }
     ensures { λ p. ⌜ Outcome (now (tables .entry)) words r [] (readAndWrite alternate a) (placesOf p) (faultIn p) (now (tables .exit)) ⌝ }
@@ -120,18 +119,4 @@ fn updated(tables: &mut [u16], words: usize, r: Rights, alternate: bool, a: u16)
         return second(tables, words, r, Kind::Write, alternate, a, a, 2, x);
     }
     Places::Fault(x)
-}
-
-// All accesses of a request.
-pub fn test_all(tables: &mut [u16], words: usize, r: Rights, q: Request) -> Places
-    requires { ⌜ (r .normal < 4) × (r .alternate < 4) ⌝ }
-    requires { ⌜ length (now tables) ≡ 256 ⌝ }
-    ensures { λ p. ⌜ Outcome (now (tables .entry)) words r [] (accessesOf q) (placesOf p) (faultIn p) (now (tables .exit)) ⌝ }
-{
-    match q {
-        Request::Idle => Places::Idle,
-        Request::Read(alternate, a, n) => several(tables, words, r, Kind::Read, alternate, a, n),
-        Request::Write(alternate, a, n) => several(tables, words, r, Kind::Write, alternate, a, n),
-        Request::Update(alternate, a) => updated(tables, words, r, alternate, a),
-    }
 }

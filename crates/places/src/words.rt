@@ -6,7 +6,7 @@ ghost use Rattle.isa.specs.Pages.{wordsAt, storeAll, lent, wordsOf};
 ghost use Rattle.isa.specs.declared.access.Translation.{Translation as TranslationOf};
 ghost use Rattle.paging.specs.Within.{Within, AllWithin};
 ghost use Rattle.places.specs.Accesses.{placesOf, restOf};
-use crate::request::Places;
+use crate::outcome::Places;
 use isa::access::Translation;
 use isa::access::Triple;
 use paging::place::is_store;

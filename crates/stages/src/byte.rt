@@ -19,9 +19,8 @@ use operands::byte::stored_byte;
 use paging::place::fault_of;
 use paging::place::word_at;
 use paging::translation::translate;
-use places::request::Request;
-use places::request::fault_in;
-use places::test::test_all;
+use places::outcome::fault_in;
+use places::test::updated;
 use places::words::read_all;
 use places::words::store_all;
 
@@ -42,7 +41,7 @@ pub fn store_byte(f: &Registers, r: Rights, mem: &mut [u16], tables: &mut [u16])
     requires { ⌜ length (now tables) ≡ 256 ⌝ }
     ensures { λ d. ⌜ ByteOperation (now (f .entry)) r StoreByte (now (mem .entry)) (now (tables .entry)) d (now (mem .exit)) (now (tables .exit)) ⌝ }
 {
-    let p = test_all(tables, mem.len(), r, Request::Update(true, byte_address(f)));
+    let p = updated(tables, mem.len(), r, true, byte_address(f));
     let x = fault_in(p);
     if fault_of(x) == 0 {
         let w = read_all(mem, tables, p);

@@ -14,9 +14,8 @@ use isa::machine::Registers;
 use operands::load::incremented;
 use operands::load::one_more;
 use paging::place::fault_of;
-use places::request::Request;
-use places::request::fault_in;
-use places::test::test_all;
+use places::outcome::fault_in;
+use places::test::updated;
 use places::words::read_all;
 use places::words::store_all;
 
@@ -32,7 +31,7 @@ pub fn increment(
     requires { ⌜ length (now tables) ≡ 256 ⌝ }
     ensures { λ d. ⌜ Operation (now (f .entry)) r Min alternate a (now (mem .entry)) (now (tables .entry)) d (now (mem .exit)) (now (tables .exit)) ⌝ }
 {
-    let p = test_all(tables, mem.len(), r, Request::Update(alternate, a));
+    let p = updated(tables, mem.len(), r, alternate, a);
     let x = fault_in(p);
     if fault_of(x) == 0 {
         let w = read_all(mem, tables, p);

@@ -1,16 +1,20 @@
 -- Each step that is fine is one more of the run's; the last one leaves its event.
 -- Assumes nothing.
-use Prim.Native.Nat.{ℕ, _-_}
+use Prim.Native.Nat.{ℕ, _+_, _-_}
 use mathlib.Core.Path.{_≡_, refl, sym, subst, _∙_}
 use mathlib.Core.List.{List}
 use native.Mathlib.Omega.{arith}
 use lib.ListN.{length, length-map}
+use mathlib.Core.Bool.{Bool, false, not, _||_}
+use lib.Dec.{eqb}
 use borrow.Author.Needs.{needs}
+use borrow.Author.Tests.{eqb-true}
+use Rattle.event.specs.Events.{isFine}
 use Rattle.event.specs.declared.Event.{Event}
 use Rattle.event.specs.declared.Event.the-variants.{Fine}
 use Rattle.execute.specs.Effects.{fileOf}
 use Rattle.burst.proofs.Bursts.{Level, Steps, Quiet, at-start, all-quiet, the-only, then-ends, first-step, then-quiet, stepped, Answered}
-use Rattle.burst.proofs.Laws.{fine-event, not-false, add-one}
+use Rattle.burst.proofs.Laws.{fine-event, not-false, neither-left, neither-right, add-one}
 use Rattle.burst.proofs.quiet_steps.Statement.{statement}
 use Rattle.burst.proofs.quiet_steps.Tie as tie
 
@@ -18,11 +22,11 @@ abbrev levelOf : List ℕ → ℕ → List ℕ → List ℕ → Level
 levelOf ws p m t = record { file = fileOf ws; pcr = p; memory = m; tables = t }
 
 abbrev Inv-loop : tie.InvT-loop
-Inv-loop p paging mem₀ tables₀ n file₀ pcr₀ before₀ mem tables file pcr before =
-    Quiet paging n (levelOf file₀ p mem₀ tables₀) before (levelOf file pcr mem tables) × ((length mem ≡ length mem₀) × (length tables ≡ length tables₀))
+Inv-loop p paging mem₀ tables₀ n file₀ before₀ mem tables file before =
+    Quiet paging n (levelOf file₀ p mem₀ tables₀) before (levelOf file p mem tables) × ((length mem ≡ length mem₀) × (length tables ≡ length tables₀))
 
 abbrev μ-loop : tie.MeasureT-loop
-μ-loop p paging mem₀ tables₀ n file₀ pcr₀ before₀ mem tables file pcr before = n - before
+μ-loop p paging mem₀ tables₀ n file₀ before₀ mem tables file before = n - before
 
 loop-holds : tie.Need-loop-holds Inv-loop μ-loop
 loop-holds c =
@@ -39,8 +43,8 @@ step-in-requires c κs =
 apply-requires : tie.Need-apply-requires Inv-loop μ-loop
 apply-requires c κs = search needs
 
-ends-requires : tie.Need-ends-requires Inv-loop μ-loop
-ends-requires c κs = search needs
+over-requires : tie.Need-over-requires Inv-loop μ-loop
+over-requires c κs = search needs
 
 burst-of-requires : tie.Need-burst-of-requires Inv-loop μ-loop
 burst-of-requires c κs = search needs
@@ -61,8 +65,8 @@ returns c =
     let after = stepping .step-in .last .1 .1 .1 in
     let d : Level = levelOf (applying .apply .last .0) (stepping .step-in .result .pcr) (after .0) (after .1 .0) in
     let e : Event = stepping .step-in .result .event in
-    let s : Steps (k .args .paging) (levelOf (l .file) (l .pcr) (l .mem) (l .tables)) d e =
-    stepped (k .args .paging) (l .pcr) (l .file) (stepping .step-in .last .0) (l .mem) (l .tables) (after .0) (after .1 .0) (stepping .step-in .result) (fileOf (applying .apply .last .0)) (stepping .step-in .ensures .0) (applying .apply .ensures .0) in
+    let s : Steps (k .args .paging) (levelOf (l .file) (k .args .p) (l .mem) (l .tables)) d e =
+    stepped (k .args .paging) (k .args .p) (l .file) (stepping .step-in .last .0) (l .mem) (l .tables) (after .0) (after .1 .0) (stepping .step-in .result) (fileOf (applying .apply .last .0)) (stepping .step-in .ensures .0) (applying .apply .ensures .0) in
     subst (Answered (k .args .f) (k .args .p) (k .args .paging) (k .args .mem .now) (k .args .tables .now) (k .args .n) (after .0) (after .1 .0)) (sym (c .burst-of .ensures))
     (tested .loop-test .taken, (then-ends (l .inv .0) (tested .loop-test .taken) d e s, λ z. first-step (l .inv .0) (tested .loop-test .taken) d e s z))
 
@@ -81,12 +85,20 @@ loop-again c =
     let k = tested .before .before .before .before .before in
     let after = stepping .step-in .last .1 .1 .1 in
     let d : Level = levelOf (applying .apply .last .0) (stepping .step-in .result .pcr) (after .0) (after .1 .0) in
-    let s : Steps (k .args .paging) (levelOf (l .file) (l .pcr) (l .mem) (l .tables)) d (stepping .step-in .result .event) =
-    stepped (k .args .paging) (l .pcr) (l .file) (stepping .step-in .last .0) (l .mem) (l .tables) (after .0) (after .1 .0) (stepping .step-in .result) (fileOf (applying .apply .last .0)) (stepping .step-in .ensures .0) (applying .apply .ensures .0) in
-    let fine : stepping .step-in .result .event ≡ Fine = fine-event (stepping .step-in .result .event) (not-false _ (sym (c .before .ends .ensures) ∙ c .if1 .left)) in
+    let s : Steps (k .args .paging) (levelOf (l .file) (k .args .p) (l .mem) (l .tables)) d (stepping .step-in .result .event) =
+    stepped (k .args .paging) (k .args .p) (l .file) (stepping .step-in .last .0) (l .mem) (l .tables) (after .0) (after .1 .0) (stepping .step-in .result) (fileOf (applying .apply .last .0)) (stepping .step-in .ensures .0) (applying .apply .ensures .0) in
+    let q = stepping .step-in .result in
+    let ends : Bool = not (isFine (q .event)) in
+    let moved : Bool = not (eqb (q .pcr) (k .args .p)) in
+    let goes-on : (ends || moved) ≡ false = sym (c .before .over .ensures) ∙ c .if1 .left in
+    let fine : q .event ≡ Fine = fine-event (q .event) (not-false (isFine (q .event)) (neither-left ends moved goes-on)) in
+    let stays : q .pcr ≡ k .args .p =
+    eqb-true (q .pcr) (k .args .p) (not-false (eqb (q .pcr) (k .args .p)) (neither-right ends moved goes-on)) in
     let eight : length (applying .apply .last .0) ≡ 8 = applying .apply .ensures .1 ∙ stepping .step-in .ensures .1 ∙ l .inv .0 .words in
-    let q = then-quiet (l .inv .0) (tested .loop-test .taken) d (subst (Steps (k .args .paging) (levelOf (l .file) (l .pcr) (l .mem) (l .tables)) d) fine s) eight in
-    (subst (λ (n : ℕ). Quiet (k .args .paging) (k .args .n) (levelOf (k .args .f .words) (k .args .p) (k .args .mem .now) (k .args .tables .now)) n d) (add-one (l .before)) q, (stepping .step-in .kept .1 .1 .1 .0 ∙ l .inv .1 .0, stepping .step-in .kept .1 .1 .1 .1 .0 ∙ l .inv .1 .1))
+    let more = then-quiet (l .inv .0) (tested .loop-test .taken) d (subst (Steps (k .args .paging) (levelOf (l .file) (k .args .p) (l .mem) (l .tables)) d) fine s) eight in
+    let start : Level = levelOf (k .args .f .words) (k .args .p) (k .args .mem .now) (k .args .tables .now) in
+    let quiet : Quiet (k .args .paging) (k .args .n) start (l .before + 1) d = subst (λ (n : ℕ). Quiet (k .args .paging) (k .args .n) start n d) (add-one (l .before)) more in
+    (subst (λ (x : ℕ). Quiet (k .args .paging) (k .args .n) start (l .before + 1) (levelOf (applying .apply .last .0) x (after .0) (after .1 .0))) stays quiet, (stepping .step-in .kept .1 .1 .1 .0 ∙ l .inv .1 .0, stepping .step-in .kept .1 .1 .1 .1 .0 ∙ l .inv .1 .1))
 
 sub-burst-of : tie.Need-sub-burst-of Inv-loop μ-loop
 sub-burst-of c = search needs
@@ -104,7 +116,7 @@ returns-2 : tie.Need-returns-2 Inv-loop μ-loop
 returns-2 c =
     let l = c .before .before .loop in
     let k = c .before .before .before .before .before .before in
-    let d : Level = levelOf (l .file) (l .pcr) (l .mem) (l .tables) in
+    let d : Level = levelOf (l .file) (k .args .p) (l .mem) (l .tables) in
     let all : l .before ≡ k .args .n = omega (arith, c .before .loop-test .left, l .inv .0 .most) in
     let q : Quiet (k .args .paging) (k .args .n) (levelOf (k .args .f .words) (k .args .p) (k .args .mem .now) (k .args .tables .now)) (k .args .n) d =
     subst (λ (n : ℕ). Quiet (k .args .paging) (k .args .n) (levelOf (k .args .f .words) (k .args .p) (k .args .mem .now) (k .args .tables .now)) n d) all (l .inv .0) in
@@ -120,7 +132,7 @@ quiet-steps-spec =
     loop-holds
     step-in-requires
     apply-requires
-    ends-requires
+    over-requires
     burst-of-requires
     same-length
     same-length-2

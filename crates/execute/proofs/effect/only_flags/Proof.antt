@@ -1,10 +1,10 @@
--- P is written as it stands, after STS.
+-- T is written as it stands, after STS.
 -- Assumes nothing.
 use mathlib.Core.Path.{ap, _∙_}
 use native.Mathlib.Omega.{arith}
 use borrow.Author.Needs.{needs}
 use Rattle.isa.specs.Instructions.{loads}
-use Rattle.isa.specs.declared.machine.Register.the-variants.{Sts, P}
+use Rattle.isa.specs.declared.machine.Register.the-variants.{Sts, T}
 use Rattle.execute.specs.Effects.{fileOf}
 use Rattle.execute.proofs.Laws.{same-after}
 use Rattle.execute.proofs.effect.only_flags.Statement.{statement}
@@ -19,7 +19,7 @@ with-flags-requires c κs = search needs
 returns : tie.Need-returns
 returns c =
     let a = c .before .before .args in
-    c .with-flags .ensures ∙ ap loads (same-after (fileOf (a .f .now)) Sts P (a .sts) _ (λ e. omega arith) (c .before .reg .ensures))
+    c .with-flags .ensures ∙ ap loads (same-after (fileOf (a .f .now)) Sts T (a .sts) _ (λ e. omega arith) (c .before .reg .ensures))
 
 pub only-flags-spec : {M : Type 1} → statement M
 only-flags-spec = tie.close (tie.spec reg-requires with-flags-requires returns)

@@ -1,5 +1,6 @@
 -- JMP and JPL, and the operations that do not jump.
 -- Assumes nothing.
+use native.Mathlib.Omega.{arith}
 use borrow.Author.Needs.{needs}
 use Rattle.operands.proofs.jump.jumps.Statement.{statement}
 use Rattle.operands.proofs.jump.jumps.Tie as tie
@@ -7,8 +8,8 @@ use Rattle.operands.proofs.jump.jumps.Tie as tie
 enum-told : tie.Need-enum-told
 enum-told c = search needs
 
-one-requires : tie.Need-one-requires
-one-requires c κs = search needs
+goes-requires : tie.Need-goes-requires
+goes-requires c κs = search needs
 
 enum-told-2 : tie.Need-enum-told-2
 enum-told-2 c = search needs
@@ -16,8 +17,8 @@ enum-told-2 c = search needs
 reg-requires : tie.Need-reg-requires
 reg-requires c κs = search needs
 
-two-requires : tie.Need-two-requires
-two-requires c κs = search needs
+goes-with-requires : tie.Need-goes-with-requires
+goes-with-requires c κs = λ e. omega arith
 
 enum-told-3 : tie.Need-enum-told-3
 enum-told-3 c = search needs
@@ -122,10 +123,10 @@ none-requires-17 : tie.Need-none-requires-17
 none-requires-17 c κs = search needs
 
 returns : tie.Need-returns
-returns c = simp (c .one .ensures, c .before .enum-told .given .1)
+returns c = simp (c .goes .ensures, c .before .enum-told .given .1)
 
 returns-2 : tie.Need-returns-2
-returns-2 c = simp (c .two .ensures, c .before .reg .ensures, c .before .before .enum-told2 .given .1)
+returns-2 c = simp (c .goes-with .ensures, c .before .reg .ensures, c .before .before .enum-told2 .given .1)
 
 returns-3 : tie.Need-returns-3
 returns-3 c = simp (c .none .ensures, c .before .enum-told3 .given .1)
@@ -183,10 +184,10 @@ jumps-spec =
     tie.close
     (tie.spec
     enum-told
-    one-requires
+    goes-requires
     enum-told-2
     reg-requires
-    two-requires
+    goes-with-requires
     enum-told-3
     none-requires
     enum-told-4

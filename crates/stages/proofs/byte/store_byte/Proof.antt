@@ -16,8 +16,8 @@ use Rattle.stages.proofs.byte.store_byte.Tie as tie
 byte-address-requires : tie.Need-byte-address-requires
 byte-address-requires c κs = search needs
 
-test-all-requires : tie.Need-test-all-requires
-test-all-requires c κs = search needs
+updated-requires : tie.Need-updated-requires
+updated-requires c κs = search needs
 
 fault-in-requires : tie.Need-fault-in-requires
 fault-in-requires c κs = search needs
@@ -35,7 +35,7 @@ store-all-requires : tie.Need-store-all-requires
 store-all-requires c κs =
     let then = c .before .before .before .before .before .before .before .before .before in
     let start = then .before .before .before .before .before .before .before in
-    let p = c .before .before .before .before .before .before .before .before .before .before .before .test-all in
+    let p = c .before .before .before .before .before .before .before .before .before .before .before .updated in
     (p .ensures .within, p .kept .0 ∙ start .pre .1)
 
 none-requires : tie.Need-none-requires
@@ -50,15 +50,15 @@ same-length c = search needs
 same-length-2 : tie.Need-same-length-2
 same-length-2 c =
     let then = c .before .before .before .before .before .before .before .before .before in
-    let at-test-all = then .before .before .before .before .before .before .before .before .before in
-    c .before .before .before .before .before .before .store-all .kept .1 .0 ∙ at-test-all .test-all .kept .0
+    let at-updated = then .before .before .before .before .before .before .before .before .before in
+    c .before .before .before .before .before .before .store-all .kept .1 .0 ∙ at-updated .updated .kept .0
 
 returns : tie.Need-returns
 returns c =
     let s = c .before .before .before .before .before .before in
     let b = s .before .before .before .before .before .before .before .before .before .before .before .before in
     let a = b .before .before .before .before .before .args in
-    let p = b .test-all in
+    let p = b .updated in
     let g = fileOf (a .f .now) in
     let x = s .before .before .before .before .before .before .before .before .before .fault-in in
     let o = renamed (ap (readAndWrite true) (b .before .byte-address .ensures)) (x .ensures) (p .ensures) in
@@ -78,7 +78,7 @@ returns-2 c =
     let b = c .before .before .before .before .before .before in
     let a = b .before .before .before .before .before .args in
     let x = c .before .before .before .fault-in in
-    let o = renamed (ap (readAndWrite true) (b .before .byte-address .ensures)) (x .ensures) (b .test-all .ensures) in
+    let o = renamed (ap (readAndWrite true) (b .before .byte-address .ensures)) (x .ensures) (b .updated .ensures) in
     stores-byte (a .mem .now) (a .tables .now) (c .with-event .result) _ _
     (fails (a .mem .now) o (λ f vs. storing f (storedByte f (getD vs 0 0) ∷ [])) (c .with-event .result) (fails-other (x .result) (c .before .before .fault-of .ensures) (c .before .if1 .left)) (c .with-event .ensures .0) (c .with-event .ensures .1))
 
@@ -87,7 +87,7 @@ store-byte-spec =
     tie.close
     (tie.spec
     byte-address-requires
-    test-all-requires
+    updated-requires
     fault-in-requires
     fault-of-requires
     read-all-requires

@@ -11,8 +11,8 @@ use Rattle.stages.proofs.Operations.{renamed, one-stored, stores, fails
 use Rattle.stages.proofs.update.increment.Statement.{statement}
 use Rattle.stages.proofs.update.increment.Tie as tie
 
-test-all-requires : tie.Need-test-all-requires
-test-all-requires c κs = search needs
+updated-requires : tie.Need-updated-requires
+updated-requires c κs = search needs
 
 fault-in-requires : tie.Need-fault-in-requires
 fault-in-requires c κs = search needs
@@ -30,7 +30,7 @@ store-all-requires : tie.Need-store-all-requires
 store-all-requires c κs =
     let then = c .before .before .before .before .before .before .before .before .before in
     let start = then .before .before .before .before .before .before in
-    let p = c .before .before .before .before .before .before .before .before .before .before .before .test-all in
+    let p = c .before .before .before .before .before .before .before .before .before .before .before .updated in
     (p .ensures .within, p .kept .0 ∙ start .pre .1)
 
 incremented-requires : tie.Need-incremented-requires
@@ -45,15 +45,15 @@ same-length c = search needs
 same-length-2 : tie.Need-same-length-2
 same-length-2 c =
     let then = c .before .before .before .before .before .before .before .before .before in
-    let at-test-all = then .before .before .before .before .before .before .before .before .before in
-    c .before .before .before .before .before .before .store-all .kept .1 .0 ∙ at-test-all .test-all .kept .0
+    let at-updated = then .before .before .before .before .before .before .before .before .before in
+    c .before .before .before .before .before .before .store-all .kept .1 .0 ∙ at-updated .updated .kept .0
 
 returns : tie.Need-returns
 returns c =
     let s = c .before .before .before .before .before .before in
     let b = s .before .before .before .before .before .before .before .before .before .before .before .before in
     let a = b .before .before .before .before .args in
-    let p = b .test-all in
+    let p = b .updated in
     let x = s .before .before .before .before .before .before .before .before .before .fault-in in
     let o = renamed refl (x .ensures) (p .ensures) in
     stores (a .mem .now) o (λ f. memoryCompletion Min f (a .a)) (c .fine .result) (passes-zero (x .result) (s .before .before .before .before .before .before .before .before .fault-of .ensures) (s .before .before .before .before .before .before .before .if1 .taken)) (c .fine .ensures .0) (c .fine .ensures .1)
@@ -71,14 +71,14 @@ returns-2 c =
     let b = c .before .before .before .before .before .before in
     let a = b .before .before .before .before .args in
     let x = c .before .before .before .fault-in in
-    let o = renamed refl (x .ensures) (b .test-all .ensures) in
+    let o = renamed refl (x .ensures) (b .updated .ensures) in
     fails (a .mem .now) o (λ f. memoryCompletion Min f (a .a)) (c .with-event .result) (fails-other (x .result) (c .before .before .fault-of .ensures) (c .before .if1 .left)) (c .with-event .ensures .0) (c .with-event .ensures .1)
 
 pub increment-spec : {M : Type 1} → statement M
 increment-spec =
     tie.close
     (tie.spec
-    test-all-requires
+    updated-requires
     fault-in-requires
     fault-of-requires
     read-all-requires

@@ -1,16 +1,7 @@
-// What an instruction asks of memory, and what came of it.
+// What came of the accesses that an instruction asks for.
 ghost use mathlib.Core.Path.{_≡_};
 ghost use Rattle.places.specs.Accesses.{faultIn};
 use isa::access::Translation;
-
-// No access; one to three words from an address on, to read or to write; or one word, to read and then to write. The bool is the
-// alternate rule, then come the address and the number of words.
-pub enum Request {
-    Idle,
-    Read(bool, u16, u16),
-    Write(bool, u16, u16),
-    Update(bool, u16),
-}
 
 // The places of accesses that all passed, in order; or the first that failed.
 pub enum Places {
