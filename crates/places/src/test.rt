@@ -7,6 +7,7 @@ ghost use lib.Dec.{eqb};
 ghost use lib.ListN.{length};
 ghost use Rattle.isa.specs.Address.{access, sum};
 ghost use Rattle.isa.specs.Instructions.{readAndWrite};
+ghost use Rattle.isa.specs.declared.access.Kind.the-variants.{Read, Write};
 ghost use Rattle.paging.specs.Within.{Within};
 ghost use Rattle.paging.specs.Outcome.{Outcome};
 ghost use Rattle.places.specs.Accesses.{wordsFrom, placesOf, faultIn};
@@ -75,7 +76,7 @@ fn second(
 }
 
 // So many words of one kind from an address on.
-pub fn several(
+fn several(
     tables: &mut [u16],
     words: usize,
     r: Rights,
@@ -108,15 +109,77 @@ pub fn several(
     Places::Fault(x)
 }
 
+// Two accesses, each of its kind and at its address.
+fn pair(
+    tables: &mut [u16],
+    words: usize,
+    r: Rights,
+    j: Kind,
+    k: Kind,
+    alternate: bool,
+    a: u16,
+    b: u16,
+) -> Places
+    requires { ⌜ (r .normal < 4) × (r .alternate < 4) ⌝ }
+    requires { ⌜ length (now tables) ≡ 256 ⌝ }
+    ensures { λ p. ⌜ Outcome (now (tables .entry)) words r [] (access j alternate a ∷ access k alternate b ∷ []) (placesOf p) (faultIn p) (now (tables .exit)) ⌝ }
+{
+    let x = translate(tables, words, r, j, alternate, a);
+    if fault_of(x) == 0 {
+        let y = translate(tables, words, r, k, alternate, b);
+        if fault_of(y) == 0 {
+            return Places::Two(x, y);
+        }
+        return Places::Fault(y);
+    }
+    Places::Fault(x)
+}
+
+// So many words to read, or to write, from an address on. Each has one caller and is compiled into it; two words, the usual number,
+// are then found without a call.
+pub fn to_read(
+    tables: &mut [u16],
+    words: usize,
+    r: Rights,
+    alternate: bool,
+    a: u16,
+    n: u16,
+) -> Places
+    requires { ⌜ (r .normal < 4) × (r .alternate < 4) ⌝ }
+    requires { ⌜ length (now tables) ≡ 256 ⌝ }
+    ensures { λ p. ⌜ Outcome (now (tables .entry)) words r [] (wordsFrom Read alternate a n) (placesOf p) (faultIn p) (now (tables .exit)) ⌝ }
+{
+    if n == 2 {
+        let b = std::num::wrapping_add_u16(a, 1);
+        return pair(tables, words, r, Kind::Read, Kind::Read, alternate, a, b);
+    }
+    several(tables, words, r, Kind::Read, alternate, a, n)
+}
+
+pub fn to_write(
+    tables: &mut [u16],
+    words: usize,
+    r: Rights,
+    alternate: bool,
+    a: u16,
+    n: u16,
+) -> Places
+    requires { ⌜ (r .normal < 4) × (r .alternate < 4) ⌝ }
+    requires { ⌜ length (now tables) ≡ 256 ⌝ }
+    ensures { λ p. ⌜ Outcome (now (tables .entry)) words r [] (wordsFrom Write alternate a n) (placesOf p) (faultIn p) (now (tables .exit)) ⌝ }
+{
+    if n == 2 {
+        let b = std::num::wrapping_add_u16(a, 1);
+        return pair(tables, words, r, Kind::Write, Kind::Write, alternate, a, b);
+    }
+    several(tables, words, r, Kind::Write, alternate, a, n)
+}
+
 // A word to read and then to write.
 pub fn updated(tables: &mut [u16], words: usize, r: Rights, alternate: bool, a: u16) -> Places
     requires { ⌜ (r .normal < 4) × (r .alternate < 4) ⌝ }
     requires { ⌜ length (now tables) ≡ 256 ⌝ }
     ensures { λ p. ⌜ Outcome (now (tables .entry)) words r [] (readAndWrite alternate a) (placesOf p) (faultIn p) (now (tables .exit)) ⌝ }
 {
-    let x = translate(tables, words, r, Kind::Read, alternate, a);
-    if fault_of(x) == 0 {
-        return second(tables, words, r, Kind::Write, alternate, a, a, 2, x);
-    }
-    Places::Fault(x)
+    pair(tables, words, r, Kind::Read, Kind::Write, alternate, a, a)
 }

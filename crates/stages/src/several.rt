@@ -10,7 +10,6 @@ use crate::done::fine;
 use crate::done::with_event;
 use event::Event;
 use execute::effect;
-use isa::access::Kind;
 use isa::access::Rights;
 use isa::instruction::MemoryOp;
 use isa::machine::Registers;
@@ -18,7 +17,8 @@ use operands::load::loaded_more;
 use operands::store::stored_more;
 use paging::place::fault_of;
 use places::outcome::fault_in;
-use places::test::several;
+use places::test::to_read;
+use places::test::to_write;
 use places::words::read_all;
 use places::words::store_all;
 
@@ -37,7 +37,7 @@ pub fn read_more(
     requires { ⌜ requestOf o ≡ ReadMore n ⌝ }
     ensures { λ d. ⌜ Operation (now (f .entry)) r o alternate a (now (mem .entry)) (now (tables .entry)) d (now (mem .entry)) (now (tables .exit)) ⌝ }
 {
-    let p = several(tables, mem.len(), r, Kind::Read, alternate, a, n);
+    let p = to_read(tables, mem.len(), r, alternate, a, n);
     let x = fault_in(p);
     if fault_of(x) == 0 {
         return fine(loaded_more(n, f, read_all(mem, tables, p)));
@@ -60,7 +60,7 @@ pub fn write_more(
     requires { ⌜ requestOf o ≡ WriteMore n ⌝ }
     ensures { λ d. ⌜ Operation (now (f .entry)) r o alternate a (now (mem .entry)) (now (tables .entry)) d (now (mem .exit)) (now (tables .exit)) ⌝ }
 {
-    let p = several(tables, mem.len(), r, Kind::Write, alternate, a, n);
+    let p = to_write(tables, mem.len(), r, alternate, a, n);
     let x = fault_in(p);
     if fault_of(x) == 0 {
         store_all(mem, tables, p, stored_more(n, f));

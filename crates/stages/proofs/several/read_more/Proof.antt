@@ -14,8 +14,8 @@ use Rattle.stages.proofs.Operations.{AllRead, renamed, requested, sever
 use Rattle.stages.proofs.several.read_more.Statement.{statement}
 use Rattle.stages.proofs.several.read_more.Tie as tie
 
-several-requires : tie.Need-several-requires
-several-requires c κs = search needs
+to-read-requires : tie.Need-to-read-requires
+to-read-requires c κs = search needs
 
 fault-in-requires : tie.Need-fault-in-requires
 fault-in-requires c κs = search needs
@@ -42,7 +42,7 @@ returns c =
     let a = k .args in
     let w = subst (Tells (a .o)) (k .pre .1 .1) (request-tells (a .o)) in
     let q = several-words Read (a .alternate) (a .a) (a .n) w ∙ requested (a .o) (ReadMore (a .n)) (a .alternate) (a .a) (k .pre .1 .1) in
-    let p = b .several in
+    let p = b .to-read in
     let o = renamed q (c .before .before .before .before .before .before .fault-in .ensures) (p .ensures) in
     let v = c .before .before .read-all in
     let g = fileOf (a .f .now) in
@@ -66,14 +66,14 @@ returns-2 c =
     let w = subst (Tells (a .o)) (k .pre .1 .1) (request-tells (a .o)) in
     let q = several-words Read (a .alternate) (a .a) (a .n) w ∙ requested (a .o) (ReadMore (a .n)) (a .alternate) (a .a) (k .pre .1 .1) in
     let x = c .before .before .before .fault-in in
-    let o = renamed q (x .ensures) (b .several .ensures) in
+    let o = renamed q (x .ensures) (b .to-read .ensures) in
     fails (a .mem .now) o (λ f. memoryCompletion (a .o) f (a .a)) (c .with-event .result) (fails-other (x .result) (c .before .before .fault-of .ensures) (c .before .if1 .left)) (c .with-event .ensures .0) (c .with-event .ensures .1)
 
 pub read-more-spec : {M : Type 1} → statement M
 read-more-spec =
     tie.close
     (tie.spec
-    several-requires
+    to-read-requires
     fault-in-requires
     fault-of-requires
     read-all-requires

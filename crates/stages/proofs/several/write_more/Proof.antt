@@ -14,8 +14,8 @@ use Rattle.stages.proofs.Operations.{renamed, requested, several-words,
 use Rattle.stages.proofs.several.write_more.Statement.{statement}
 use Rattle.stages.proofs.several.write_more.Tie as tie
 
-several-requires : tie.Need-several-requires
-several-requires c κs = search needs
+to-write-requires : tie.Need-to-write-requires
+to-write-requires c κs = search needs
 
 fault-in-requires : tie.Need-fault-in-requires
 fault-in-requires c κs = search needs
@@ -41,8 +41,8 @@ same-length c = search needs
 same-length-2 : tie.Need-same-length-2
 same-length-2 c =
     let then = c .before .before .before .before .before .before .before .before .before in
-    let at-several = then .before .before .before .before .before .before in
-    c .before .before .before .before .before .before .store-all .kept .1 .0 ∙ at-several .several .kept .0
+    let at-to-write = then .before .before .before .before .before .before in
+    c .before .before .before .before .before .before .store-all .kept .1 .0 ∙ at-to-write .to-write .kept .0
 
 returns : tie.Need-returns
 returns c =
@@ -52,7 +52,7 @@ returns c =
     let a = k .args in
     let w = subst (Tells (a .o)) (k .pre .1 .1) (request-tells (a .o)) in
     let q = several-words Write (a .alternate) (a .a) (a .n) w ∙ requested (a .o) (WriteMore (a .n)) (a .alternate) (a .a) (k .pre .1 .1) in
-    let p = b .several in
+    let p = b .to-write in
     let o = renamed q (s .before .before .before .before .before .before .fault-in .ensures) (p .ensures) in
     let g = fileOf (a .f .now) in
     stores (a .mem .now) o (λ f. memoryCompletion (a .o) f (a .a)) (c .fine .result) (passes-zero (s .before .before .before .before .before .before .fault-in .result) (s .before .before .before .before .before .fault-of .ensures) (s .before .before .before .before .if1 .taken)) (c .fine .ensures .0) (c .fine .ensures .1)
@@ -73,14 +73,14 @@ returns-2 c =
     let w = subst (Tells (a .o)) (k .pre .1 .1) (request-tells (a .o)) in
     let q = several-words Write (a .alternate) (a .a) (a .n) w ∙ requested (a .o) (WriteMore (a .n)) (a .alternate) (a .a) (k .pre .1 .1) in
     let x = c .before .before .before .fault-in in
-    let o = renamed q (x .ensures) (b .several .ensures) in
+    let o = renamed q (x .ensures) (b .to-write .ensures) in
     fails (a .mem .now) o (λ f. memoryCompletion (a .o) f (a .a)) (c .with-event .result) (fails-other (x .result) (c .before .before .fault-of .ensures) (c .before .if1 .left)) (c .with-event .ensures .0) (c .with-event .ensures .1)
 
 pub write-more-spec : {M : Type 1} → statement M
 write-more-spec =
     tie.close
     (tie.spec
-    several-requires
+    to-write-requires
     fault-in-requires
     fault-of-requires
     stored-more-requires
