@@ -6,6 +6,8 @@ use second::State;
 use std::time::Instant;
 
 const REPETITIONS: usize = 5;
+/// A repetition is so many slices of each engine, in turn, so that what disturbs the machine disturbs both.
+const SLICES: u64 = 10;
 
 extern "C" {
     fn nd110_run(
@@ -180,17 +182,22 @@ fn median(mut times: Vec<f64>) -> f64 {
     times[times.len() / 2]
 }
 
-/// Both in turn, so often; the medians and their ratio.
+/// Slices of n each of both in turn, so often; the medians of the repetitions and their ratio.
 fn both(label: &str, n: u64, ours: impl Fn() -> Left, rust: impl Fn() -> Left) -> f64 {
     let (mut a, mut b) = (Vec::new(), Vec::new());
     for _ in 0..REPETITIONS {
-        let (x, y) = (ours(), rust());
-        same(&x, &y);
-        a.push(x.seconds);
-        b.push(y.seconds);
+        let (mut our_time, mut rust_time) = (0.0, 0.0);
+        for _ in 0..SLICES {
+            let (x, y) = (ours(), rust());
+            same(&x, &y);
+            our_time += x.seconds;
+            rust_time += y.seconds;
+        }
+        a.push(our_time);
+        b.push(rust_time);
     }
     let (a, b) = (median(a), median(b));
-    let ns = 1e9 / n as f64;
+    let ns = 1e9 / (n * SLICES) as f64;
     println!(
         "{label}: median ns each: ours {:.2}, Rust {:.2}; ours over Rust {:.3}",
         a * ns,
@@ -233,24 +240,26 @@ fn main() {
         Some("rust") => println!("{}", rust(64, steps, false).words[2]),
         _ => {
             let few = (steps / 20).max(1);
+            let slice = (steps / SLICES).max(1);
+            let calls = (few / SLICES).max(1);
             both(
                 "write and load of 64 pages",
-                100,
-                || our_images(64, 100),
-                || rust_images(64, 100),
+                10,
+                || our_images(64, 10),
+                || rust_images(64, 10),
             );
             both(
                 "step calls",
-                few,
-                || ours(64, few, true),
-                || rust(64, few, true),
+                calls,
+                || ours(64, calls, true),
+                || rust(64, calls, true),
             );
             growth(few);
             let ratio = both(
                 "run",
-                steps,
-                || ours(64, steps, false),
-                || rust(64, steps, false),
+                slice,
+                || ours(64, slice, false),
+                || rust(64, slice, false),
             );
             println!("ratio {ratio:.3}");
         }
