@@ -78,7 +78,7 @@ pub(crate) fn show(told: Told, mem: &[u16], tables: &[u16]) {
     let s = told.state;
     let regs = s.regs;
     let pcr = s.pcr;
-    let scalars = writing::scalars(s);
+    let scalars = writing::scalars_of(s);
     io::print_decimal(1, told.refusal);
     number(told.first);
     number(told.second);

@@ -49,7 +49,9 @@ fn contents(n: usize) -> [u16; 21]
 }
 
 // The control words 0 to 9.
-pub fn scalars(s: State) -> [u16; 10]
+pub type Scalars = [u16; 10];
+
+pub fn scalars_of(s: State) -> Scalars
     ensures { λ r. ⌜ r ≡ s .level ∷ s .control .interrupts ∷ s .control .paging ∷ s .control .stopped ∷ s .control .pid ∷ s .control .pie ∷ s .control .pvl ∷ s .control .iid ∷ s .control .iie ∷ s .control .pgs ∷ [] ⌝ }
 {
     let c = s.control;
@@ -85,7 +87,7 @@ pub fn put_state(s: State, out: &mut [u16], at: usize)
     ensures { λ _. ⌜ now (out .exit) ≡ paste (now (out .entry)) at (s .regs ++ controlWords s) 154 ⌝ }
 {
     let r = s.regs;
-    let k = scalars(s);
+    let k = scalars_of(s);
     let p = s.pcr;
     copy(out, at, &r, 0, 128);
     copy(out, at + 128, &k, 0, 10);

@@ -9,8 +9,8 @@ use Rattle.writing.proofs.Written.{state-put}
 use Rattle.writing.proofs.put_state.Statement.{statement}
 use Rattle.writing.proofs.put_state.Tie as tie
 
-scalars-requires : tie.Need-scalars-requires
-scalars-requires c κs = search needs
+scalars-of-requires : tie.Need-scalars-of-requires
+scalars-of-requires c κs = search needs
 
 slice-aggregate-copy : tie.Need-slice-aggregate-copy
 slice-aggregate-copy c = search needs
@@ -54,14 +54,14 @@ returns c =
     let e : length (k .args .s .regs) ≡ 128 = sym (length-map (k .args .s .regs) _) ∙ k .good .0 .1 .1 .0 .1 .0 .1 in
     let g : length (k .args .s .pcr) ≡ 16 = sym (length-map (k .args .s .pcr) _) ∙ k .good .0 .1 .1 .1 .1 .1 .0 .1 .0 .1 in
     let h : k .args .at ≤ length (k .args .out .now) = omega (arith, k .pre) in
-    let s = a .before .before .before .before .scalars in
+    let s = a .before .before .before .before .scalars-of in
     state-put (k .args .out .now) (k .args .s .regs) (s .result) _ (k .args .s .pcr) (a .copy .last .0) (b .copy2 .last .0) (c .before .before .copy3 .last .0) (k .args .at) h e refl g (s .ensures) (a .copy .ensures) (b .copy2 .ensures) (c .before .before .copy3 .ensures)
 
 pub put-state-spec : {M : Type 1} → statement M
 put-state-spec =
     tie.close
     (tie.spec
-    scalars-requires
+    scalars-of-requires
     slice-aggregate-copy
     copy-requires
     add-copy
