@@ -37,6 +37,11 @@ pub record Found (t : List ℕ) (words : ℕ) (r : Rights) (x : Access) (y : Tra
   pub marks : v ≡ marked t words r x
   pub fault : n ≡ faultOf y
 
+-- .. by the contracts of the translation and of its fault's number
+pub found-by : {t : List ℕ} {words : ℕ} {r : Rights} {x : Access} {y : Translation} {n : ℕ} {v : List ℕ}
+    → (y ≡ translate t words r x) × (v ≡ marked t words r x) → n ≡ faultOf y → Found t words r x y n v
+found-by e h = record { place = e .0; marks = e .1; fault = h }
+
 module _ {t : List ℕ} {words : ℕ} {r : Rights} {x : Access} {y : Translation} {n : ℕ} {v : List ℕ} (f : Found t words r x y n v) where
   pub found-within : Within words y
   found-within = rw (f .place) (translate-within t words r x)

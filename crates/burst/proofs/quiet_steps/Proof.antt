@@ -80,14 +80,14 @@ loop-again : tie.Need-loop-again Inv-loop μ-loop
 loop-again c =
     let applying = c .before .before in
     let stepping = applying .before .before .before .before .before .before .before in
+    let q = stepping .step-in .result in
     let tested = stepping .before .before .before .before in
     let l = tested .before .loop in
     let k = tested .before .before .before .before .before in
     let after = stepping .step-in .last .1 .1 .1 in
-    let d : Level = levelOf (applying .apply .last .0) (stepping .step-in .result .pcr) (after .0) (after .1 .0) in
-    let s : Steps (k .args .paging) (levelOf (l .file) (k .args .p) (l .mem) (l .tables)) d (stepping .step-in .result .event) =
-    stepped (k .args .paging) (k .args .p) (l .file) (stepping .step-in .last .0) (l .mem) (l .tables) (after .0) (after .1 .0) (stepping .step-in .result) (fileOf (applying .apply .last .0)) (stepping .step-in .ensures .0) (applying .apply .ensures .0) in
-    let q = stepping .step-in .result in
+    let d : Level = levelOf (applying .apply .last .0) (q .pcr) (after .0) (after .1 .0) in
+    let s : Steps (k .args .paging) (levelOf (l .file) (k .args .p) (l .mem) (l .tables)) d (q .event) =
+    stepped (k .args .paging) (k .args .p) (l .file) (stepping .step-in .last .0) (l .mem) (l .tables) (after .0) (after .1 .0) q (fileOf (applying .apply .last .0)) (stepping .step-in .ensures .0) (applying .apply .ensures .0) in
     let ends : Bool = not (isFine (q .event)) in
     let moved : Bool = not (eqb (q .pcr) (k .args .p)) in
     let goes-on : (ends || moved) ≡ false = sym (c .before .over .ensures) ∙ c .if1 .left in

@@ -1,9 +1,8 @@
 -- By the answer: a run from a state in range, or the refusal.
 -- Assumes nothing.
-use mathlib.Core.Path.{_≡_, refl, sym, ap, _∙_}
-use Rattle.isa.specs.Answers.{stateAnswer, steppedCall, stepCallBy, stepCall}
+use mathlib.Core.Path.{refl, sym, ap, _∙_}
+use Rattle.isa.specs.Answers.{steppedCall, stepCallBy, stepCall}
 use Rattle.isa.specs.declared.answer.Answer.{Answer}
-use Rattle.isa.specs.declared.answer.Answer.the-variants.{Done}
 use Rattle.nd110.proofs.Laws.{run-needs}
 use borrow.Author.Needs.{needs}
 use Rattle.nd110.proofs.step.step.Statement.{statement}
@@ -33,8 +32,8 @@ returns c =
     let running = c .before .before .before .before .before in
     let asked = running .before .before .before .before .before in
     let a = asked .before .before .before .before .before .args in
-    let done : Done ≡ stateAnswer (a .s) (a .mem .now) (a .tables .now) = sym (running .before .before .before .enum-told .given .1) ∙ asked .state-answer .ensures in
-    ap steppedCall (running .run .ensures .1 refl refl) ∙ ap (λ (x : Answer). stepCallBy x (a .s) (a .mem .now) (a .tables .now)) done
+    ap steppedCall (running .run .ensures .1 refl refl)
+    ∙ ap (λ (x : Answer). stepCallBy x (a .s) (a .mem .now) (a .tables .now)) (sym (running .before .before .before .enum-told .given .1) ∙ asked .state-answer .ensures)
 
 same-length-3 : tie.Need-same-length-3
 same-length-3 c = search needs

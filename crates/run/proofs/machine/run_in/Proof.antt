@@ -162,14 +162,14 @@ loop-again c =
     let running = asked .before .before in
     let tested = running .before .before .before in
     let l = tested .before .loop in
+    let same = l .inv .1 .1 in
     let a = tested .before .before .before .before .before .before .args in
     let out = advancing .advance in
+    let kept = out .kept .1 .1 in
     let left = out .last .1 .1 in
     let q : Turn = advancedTurn (out .result) (left .0) (left .1 .0) (left .1 .1 .0) (left .1 .1 .1 .0) in
     let stays : (a .first && dueAt (l .level) (l .core .control)) ≡ false = sym (asked .before .level-ends .ensures) ∙ asked .if2 .left in
-    let silent : (a .first && not (eqb (q .gave) 0)) ≡ false = sym (c .before .interrupt-ends .ensures) ∙ c .if3 .left in
-    let kept = out .kept .1 .1 in
-    let same = l .inv .1 .1 in (
+    let silent : (a .first && not (eqb (q .gave) 0)) ≡ false = sym (c .before .interrupt-ends .ensures) ∙ c .if3 .left in (
       goes-on (l .inv .0) (out .result) q (tested .loop-test .taken) (out .ensures .0 .1) (out .ensures .1 .0) (out .ensures .1 .1) stays silent,
       (out .ensures .0 .0, (kept .0 ∙ same .0, (kept .1 .0 ∙ same .1 .0, (kept .1 .1 .0 ∙ same .1 .1 .0, kept .1 .1 .1 .0 ∙ same .1 .1 .1)))),
     )

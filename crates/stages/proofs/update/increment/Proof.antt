@@ -29,9 +29,8 @@ one-more-requires c κs = search needs
 store-all-requires : tie.Need-store-all-requires
 store-all-requires c κs =
     let then = c .before .before .before .before .before .before .before .before .before in
-    let start = then .before .before .before .before .before .before in
-    let p = c .before .before .before .before .before .before .before .before .before .before .before .updated in
-    (p .ensures .within, p .kept .0 ∙ start .pre .1)
+    let b = then .before .before in
+    (b .updated .ensures .within, b .updated .kept .0 ∙ b .before .before .before .before .pre .1)
 
 incremented-requires : tie.Need-incremented-requires
 incremented-requires c κs = search needs
@@ -44,9 +43,9 @@ same-length c = search needs
 
 same-length-2 : tie.Need-same-length-2
 same-length-2 c =
-    let then = c .before .before .before .before .before .before .before .before .before in
-    let at-updated = then .before .before .before .before .before .before .before .before .before in
-    c .before .before .before .before .before .before .store-all .kept .1 .0 ∙ at-updated .updated .kept .0
+    let counted = c .before .before .before .before .before .before in
+    let tested = counted .before .before .before .before .before .before .before .before .before in
+    counted .store-all .kept .1 .0 ∙ tested .before .before .before .updated .kept .0
 
 returns : tie.Need-returns
 returns c =

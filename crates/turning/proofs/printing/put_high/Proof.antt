@@ -37,21 +37,21 @@ same-length c = search needs
 
 returns : tie.Need-returns
 returns c =
-    let fourth = c .before .before in
-    let third = fourth .before .before .before .before .before in
-    let second = third .before .before .before .before .before in
-    let first = second .before .before .before .before .before in
-    let a = first .before .before .before .before .args in (
-      omega (arith, fourth .put-register4 .ensures .0, third .put-register3 .ensures .0, second .put-register2 .ensures .0, first .put-register .ensures .0),
+    let at-x = c .before .before in
+    let at-t = at-x .before .before .before .before .before in
+    let at-a = at-t .before .before .before .before .before in
+    let at-l = at-a .before .before .before .before .before in
+    let a = at-l .before .before .before .before .args in (
+      omega (arith, at-x .put-register4 .ensures .0, at-t .put-register3 .ensures .0, at-a .put-register2 .ensures .0, at-l .put-register .ensures .0),
       four (take (a .at) (a .out .now)) _ _ _ _
           (line (ascii "L") (octal (a .e .l)))
           (line (ascii "A") (octal (a .e .a)))
           (line (ascii "T") (octal (a .e .t)))
           (line (ascii "X") (octal (a .e .x)))
-          (first .put-register .ensures .1)
-          (second .put-register2 .ensures .1)
-          (third .put-register3 .ensures .1)
-          (fourth .put-register4 .ensures .1),
+          (at-l .put-register .ensures .1)
+          (at-a .put-register2 .ensures .1)
+          (at-t .put-register3 .ensures .1)
+          (at-x .put-register4 .ensures .1),
     )
 
 pub put-high-spec : {M : Type 1} → statement M

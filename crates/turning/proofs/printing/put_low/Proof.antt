@@ -37,21 +37,21 @@ same-length c = search needs
 
 returns : tie.Need-returns
 returns c =
-    let fourth = c .before .before in
-    let third = fourth .before .before .before .before .before in
-    let second = third .before .before .before .before .before in
-    let first = second .before .before .before .before .before in
-    let a = first .before .before .before .before .args in (
-      omega (arith, fourth .put-register4 .ensures .0, third .put-register3 .ensures .0, second .put-register2 .ensures .0, first .put-register .ensures .0),
+    let at-b = c .before .before in
+    let at-p = at-b .before .before .before .before .before in
+    let at-d = at-p .before .before .before .before .before in
+    let at-sts = at-d .before .before .before .before .before in
+    let a = at-sts .before .before .before .before .args in (
+      omega (arith, at-b .put-register4 .ensures .0, at-p .put-register3 .ensures .0, at-d .put-register2 .ensures .0, at-sts .put-register .ensures .0),
       four (take (a .at) (a .out .now)) _ _ _ _
           (line (ascii "STS") (octal (a .e .sts)))
           (line (ascii "D") (octal (a .e .d)))
           (line (ascii "P") (octal (a .e .p)))
           (line (ascii "B") (octal (a .e .b)))
-          (first .put-register .ensures .1)
-          (second .put-register2 .ensures .1)
-          (third .put-register3 .ensures .1)
-          (fourth .put-register4 .ensures .1),
+          (at-sts .put-register .ensures .1)
+          (at-d .put-register2 .ensures .1)
+          (at-p .put-register3 .ensures .1)
+          (at-b .put-register4 .ensures .1),
     )
 
 pub put-low-spec : {M : Type 1} → statement M
