@@ -1,75 +1,45 @@
--- What a memory operation asks for at its effective address, and what it makes of the words.
+-- What an instruction asks for at its effective address, and what it makes of the words.
 use Prim.Native.Nat.{ℕ}
-use mathlib.Core.Bool.{Bool, true, false, cond}
+use mathlib.Core.Bool.{true, false, cond}
 use mathlib.Core.List.{List, [], _∷_}
 use lib.ListN.{getD}
 use lib.Dec.{eqb}
+use lib.Bits.{bitAnd, bitOr}
 use Rattle.isa.specs.Machine.{reg, withReg}
-use Rattle.isa.specs.Flags.{adder}
-use Rattle.isa.specs.Instructions.{Completed, loads, takes, memoryCompletion, loadedByte, oneWord, twoWords, threeWords, readAndWrite}
+use Rattle.isa.specs.Flags.{adder, complement}
+use Rattle.isa.specs.Instructions.{Completed, loads, storing, takes, multiplied, incremented, memoryCompletion, loadedByte, storedByte}
 use Rattle.isa.specs.declared.machine.File.{File}
-use Rattle.isa.specs.declared.machine.Register.the-variants.{D, A, T}
-use Rattle.isa.specs.declared.access.Access.{Access}
-use Rattle.isa.specs.declared.access.Kind.{Kind}
-use Rattle.isa.specs.declared.access.Kind.the-variants as kinds
+use Rattle.isa.specs.declared.machine.Register.the-variants.{D, P, L, A, T, X}
 use Rattle.isa.specs.declared.instruction.MemoryOp.{MemoryOp}
 use Rattle.isa.specs.declared.instruction.MemoryOp.the-variants.{Stz, Sta, Stt, Stx, Std, Ldd, Stf, Ldf, Min, Lda, Ldt, Ldx, Add, Sub, And, Ora, Mpy, Jmp, Jpl}
 use Rattle.operands.specs.declared.request.Request.{Request}
-use Rattle.operands.specs.declared.request.Request.the-variants.{Idle, Read, Write, ReadMore, WriteMore, Update}
+use Rattle.operands.specs.declared.request.Request.the-variants.{Jump, Link, Read, Write, Several, Update}
+use Rattle.operands.specs.declared.request.Change.{Change}
+use Rattle.operands.specs.declared.request.Change.the-variants.{Increment, PutByte}
+use Rattle.operands.specs.declared.request.Reading.{Reading}
+use Rattle.operands.specs.declared.request.Reading.the-variants as readings
 
-abbrev pub requestOf : MemoryOp → Request
-requestOf Stz = Write
-requestOf Sta = Write
-requestOf Stt = Write
-requestOf Stx = Write
-requestOf Std = WriteMore 2
-requestOf Ldd = ReadMore 2
-requestOf Stf = WriteMore 3
-requestOf Ldf = ReadMore 3
-requestOf Min = Update
-requestOf Lda = Read
-requestOf Ldt = Read
-requestOf Ldx = Read
-requestOf Add = Read
-requestOf Sub = Read
-requestOf And = Read
-requestOf Ora = Read
-requestOf Mpy = Read
-requestOf Jmp = Idle
-requestOf Jpl = Idle
-
--- the accesses that a request stands for
-abbrev pub accessesOf : Request → Bool → ℕ → List Access
-accessesOf Idle r a = []
-accessesOf Read r a = oneWord kinds.Read r a
-accessesOf Write r a = oneWord kinds.Write r a
-accessesOf (ReadMore n) r a = cond (eqb n 2) (twoWords kinds.Read r a) (threeWords kinds.Read r a)
-accessesOf (WriteMore n) r a = cond (eqb n 2) (twoWords kinds.Write r a) (threeWords kinds.Write r a)
-accessesOf Update r a = readAndWrite r a
-
-abbrev pub isIdle : Request → Bool
-isIdle Idle = true
-isIdle Read = false
-isIdle Write = false
-isIdle (ReadMore n) = false
-isIdle (WriteMore n) = false
-isIdle Update = false
-
-abbrev pub isRead : Request → Bool
-isRead Idle = false
-isRead Read = true
-isRead Write = false
-isRead (ReadMore n) = false
-isRead (WriteMore n) = false
-isRead Update = false
-
-abbrev pub isWrite : Request → Bool
-isWrite Idle = false
-isWrite Read = false
-isWrite Write = true
-isWrite (ReadMore n) = false
-isWrite (WriteMore n) = false
-isWrite Update = false
+-- a memory operation in the file g
+abbrev pub requestOf : MemoryOp → File → Request
+requestOf Stz g = Write 0
+requestOf Sta g = Write (reg g A)
+requestOf Stt g = Write (reg g T)
+requestOf Stx g = Write (reg g X)
+requestOf Std g = Several true 2
+requestOf Ldd g = Several false 2
+requestOf Stf g = Several true 3
+requestOf Ldf g = Several false 3
+requestOf Min g = Update Increment
+requestOf Lda g = Read readings.LoadA
+requestOf Ldt g = Read readings.LoadT
+requestOf Ldx g = Read readings.LoadX
+requestOf Add g = Read readings.Add
+requestOf Sub g = Read readings.Subtract
+requestOf And g = Read readings.And
+requestOf Ora g = Read readings.Or
+requestOf Mpy g = Read readings.Multiply
+requestOf Jmp g = Jump
+requestOf Jpl g = Link
 
 -- A takes its sum with w and the carry in c
 abbrev pub wordAdded : File → ℕ → ℕ → Completed
@@ -79,22 +49,39 @@ wordAdded g w c = loads (takes g A (adder (reg g A) w c))
 abbrev pub byteLoaded : File → ℕ → Completed
 byteLoaded g w = loads (withReg g A (loadedByte g w))
 
--- an operation that reads one word w; the others leave the file g
-abbrev pub wordLoaded : MemoryOp → File → ℕ → Completed
-wordLoaded o g w = cond (isRead (requestOf o)) (memoryCompletion o g 0 (w ∷ [])) (loads g)
+-- what is made of the word w
+abbrev pub loadedBy : Reading → File → ℕ → Completed
+loadedBy readings.LoadA g w = loads (withReg g A w)
+loadedBy readings.LoadT g w = loads (withReg g T w)
+loadedBy readings.LoadX g w = loads (withReg g X w)
+loadedBy readings.Add g w = wordAdded g w 0
+loadedBy readings.Subtract g w = wordAdded g (complement w) 1
+loadedBy readings.And g w = loads (withReg g A (bitAnd (reg g A) w))
+loadedBy readings.Or g w = loads (withReg g A (bitOr (reg g A) w))
+loadedBy readings.Multiply g w = loads (multiplied g w)
+loadedBy readings.Byte g w = byteLoaded g w
 
--- the word of an operation that writes one; 0 for the others
-abbrev pub wordStored : MemoryOp → File → ℕ
-wordStored o g = cond (isWrite (requestOf o)) (getD (memoryCompletion o g 0 [] .stores) 0 0) 0
-
--- JMP and JPL to the address a; the others leave the file g
-abbrev pub jumpTaken : MemoryOp → File → ℕ → Completed
-jumpTaken o g a = cond (isIdle (requestOf o)) (memoryCompletion o g a []) (loads g)
+-- what becomes of the file g, and the word written for the word w
+abbrev pub changeOf : Change → File → ℕ → Completed
+changeOf Increment g w = incremented g w
+changeOf PutByte g w = storing g (storedByte g w ∷ [])
 
 -- LDD by two words, LDF by three
 abbrev pub wordsLoaded : ℕ → File → List ℕ → Completed
 wordsLoaded n g ws = cond (eqb n 2) (memoryCompletion Ldd g 0 ws) (memoryCompletion Ldf g 0 ws)
 
--- STD's two words, followed by 0, or STF's three
+-- STD's two words, or STF's three; and two followed by 0
 abbrev pub wordsStored : ℕ → File → List ℕ
-wordsStored n g = cond (eqb n 2) (reg g A ∷ reg g D ∷ 0 ∷ []) (reg g T ∷ reg g A ∷ reg g D ∷ [])
+wordsStored n g = cond (eqb n 2) (reg g A ∷ reg g D ∷ []) (reg g T ∷ reg g A ∷ reg g D ∷ [])
+
+abbrev pub threeStored : ℕ → File → List ℕ
+threeStored n g = cond (eqb n 2) (reg g A ∷ reg g D ∷ 0 ∷ []) (reg g T ∷ reg g A ∷ reg g D ∷ [])
+
+-- what a request makes of the file g and the words read, at the address a
+abbrev pub completionOf : Request → File → ℕ → List ℕ → Completed
+completionOf Jump g a ws = loads (withReg g P a)
+completionOf Link g a ws = loads (withReg (withReg g L (reg g P)) P a)
+completionOf (Read k) g a ws = loadedBy k g (getD ws 0 0)
+completionOf (Write w) g a ws = storing g (w ∷ [])
+completionOf (Several store n) g a ws = cond store (storing g (wordsStored n g)) (wordsLoaded n g ws)
+completionOf (Update k) g a ws = changeOf k g (getD ws 0 0)

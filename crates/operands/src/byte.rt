@@ -34,14 +34,14 @@ fn loaded_byte(f: &Registers, w: u16) -> u16
 }
 
 // LBYT: A takes the byte of the word w.
-pub fn byte_loaded(f: &Registers, w: u16) -> Effect
+pub(crate) fn byte_loaded(f: &Registers, w: u16) -> Effect
     ensures { λ e. ⌜ completed e (fileOf (now (f .entry))) ≡ byteLoaded (fileOf (now (f .entry))) w ⌝ }
 {
     effect::one(f, Register::A, loaded_byte(f, w))
 }
 
 // SBYT: the word w with A's lower byte in it.
-pub fn stored_byte(f: &Registers, w: u16) -> u16
+pub(crate) fn stored_byte(f: &Registers, w: u16) -> u16
     ensures { λ v. ⌜ v ≡ storedByte (fileOf (now (f .entry))) w ⌝ }
 {
     let b = reg(f, Register::A) % 256;

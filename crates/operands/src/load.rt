@@ -1,17 +1,17 @@
 // Operations that read.
 ghost use mathlib.Core.Path.{_≡_};
 ghost use Prim.Native.Nat.{_<_};
-ghost use Rattle.isa.specs.Instructions.{loads, multiplied, incremented, memoryCompletion};
-ghost use Rattle.isa.specs.Address.{sum};
+ghost use Rattle.isa.specs.Instructions.{loads, multiplied, memoryCompletion};
 ghost use Rattle.isa.specs.declared.instruction.MemoryOp.the-variants.{Ldf};
 ghost use Rattle.execute.specs.Effects.{fileOf, completed};
-ghost use Rattle.operands.specs.Requests.{wordAdded, wordLoaded, wordsLoaded};
+ghost use Rattle.operands.specs.Requests.{wordAdded, loadedBy, wordsLoaded};
 ghost use Rattle.isa.specs.Pages.{wordsOf};
+use crate::byte::byte_loaded;
+use crate::request::Reading;
 use execute::effect;
 use execute::effect::Effect;
 use execute::effect::reg;
 use isa::access::Triple;
-use isa::instruction::MemoryOp;
 use isa::machine::Register;
 use isa::machine::Registers;
 
@@ -36,30 +36,20 @@ fn multiplied(f: &Registers, w: u16) -> Effect
     )
 }
 
-// An operation that reads one word, w.
-pub fn loaded(o: MemoryOp, f: &Registers, w: u16) -> Effect
-    ensures { λ e. ⌜ completed e (fileOf (now (f .entry))) ≡ wordLoaded o (fileOf (now (f .entry))) w ⌝ }
+// What is made of the word w.
+pub fn loaded(k: Reading, f: &Registers, w: u16) -> Effect
+    ensures { λ e. ⌜ completed e (fileOf (now (f .entry))) ≡ loadedBy k (fileOf (now (f .entry))) w ⌝ }
 {
-    match o {
-        MemoryOp::Lda => effect::one(f, Register::A, w),
-        MemoryOp::Ldt => effect::one(f, Register::T, w),
-        MemoryOp::Ldx => effect::one(f, Register::X, w),
-        MemoryOp::Add => added_word(f, w, 0),
-        MemoryOp::Sub => added_word(f, word::adder::complement(w), 1),
-        MemoryOp::And => effect::one(f, Register::A, reg(f, Register::A) & w),
-        MemoryOp::Ora => effect::one(f, Register::A, reg(f, Register::A) | w),
-        MemoryOp::Mpy => multiplied(f, w),
-        MemoryOp::Stz => effect::none(f),
-        MemoryOp::Sta => effect::none(f),
-        MemoryOp::Stt => effect::none(f),
-        MemoryOp::Stx => effect::none(f),
-        MemoryOp::Std => effect::none(f),
-        MemoryOp::Ldd => effect::none(f),
-        MemoryOp::Stf => effect::none(f),
-        MemoryOp::Ldf => effect::none(f),
-        MemoryOp::Min => effect::none(f),
-        MemoryOp::Jmp => effect::none(f),
-        MemoryOp::Jpl => effect::none(f),
+    match k {
+        Reading::LoadA => effect::one(f, Register::A, w),
+        Reading::LoadT => effect::one(f, Register::T, w),
+        Reading::LoadX => effect::one(f, Register::X, w),
+        Reading::Add => added_word(f, w, 0),
+        Reading::Subtract => added_word(f, word::adder::complement(w), 1),
+        Reading::And => effect::one(f, Register::A, reg(f, Register::A) & w),
+        Reading::Or => effect::one(f, Register::A, reg(f, Register::A) | w),
+        Reading::Multiply => multiplied(f, w),
+        Reading::Byte => byte_loaded(f, w),
     }
 }
 
@@ -87,18 +77,4 @@ pub fn loaded_more(n: u16, f: &Registers, w: Triple) -> Effect
         return effect::two(f, Register::D, w.b, Register::A, w.a);
     }
     triple(f, w)
-}
-
-// MIN: the word that is written for the word w.
-pub fn one_more(w: u16) -> u16
-    ensures { λ v. ⌜ v ≡ sum w 1 ⌝ }
-{
-    std::num::wrapping_add_u16(w, 1)
-}
-
-// MIN: a skip where the word written is 0.
-pub fn incremented(f: &Registers, w: u16) -> Effect
-    ensures { λ e. ⌜ completed e (fileOf (now (f .entry))) ≡ loads (incremented (fileOf (now (f .entry))) w .file) ⌝ }
-{
-    effect::skip_if(one_more(w) == 0, f)
 }

@@ -1,40 +1,64 @@
-// What a memory operation asks for at its effective address.
+// What an instruction asks for at its effective address.
 ghost use mathlib.Core.Path.{_≡_};
+ghost use Rattle.execute.specs.Effects.{fileOf};
 ghost use Rattle.operands.specs.Requests.{requestOf};
+use execute::effect::reg;
 use isa::instruction::MemoryOp;
+use isa::machine::Register;
+use isa::machine::Registers;
 
-// Nothing; one word, to read or to write; two or three words, to read or to write; one word, to read and then to write.
-pub enum Request {
-    Idle,
-    Read,
-    Write,
-    ReadMore(u16),
-    WriteMore(u16),
-    Update,
+// What is made of one word read: a register takes it, A its sum, difference, AND, OR or product with it, or A one byte of it.
+pub enum Reading {
+    LoadA,
+    LoadT,
+    LoadX,
+    Add,
+    Subtract,
+    And,
+    Or,
+    Multiply,
+    Byte,
 }
 
-pub fn request_of(o: MemoryOp) -> Request
-    ensures { λ r. ⌜ r ≡ requestOf o ⌝ }
+// What a word is changed to: one more, or A's lower byte put into it.
+pub enum Change {
+    Increment,
+    PutByte,
+}
+
+// A jump, or one that leaves P in L; a word to read; a word to write; two or three words, to write if so told, else to read; a word
+// to read and then to write.
+pub enum Request {
+    Jump,
+    Link,
+    Read(Reading),
+    Write(u16),
+    Several(bool, u16),
+    Update(Change),
+}
+
+pub fn request_of(o: MemoryOp, f: &Registers) -> Request
+    ensures { λ r. ⌜ r ≡ requestOf o (fileOf (now (f .entry))) ⌝ }
 {
     match o {
-        MemoryOp::Stz => Request::Write,
-        MemoryOp::Sta => Request::Write,
-        MemoryOp::Stt => Request::Write,
-        MemoryOp::Stx => Request::Write,
-        MemoryOp::Std => Request::WriteMore(2),
-        MemoryOp::Ldd => Request::ReadMore(2),
-        MemoryOp::Stf => Request::WriteMore(3),
-        MemoryOp::Ldf => Request::ReadMore(3),
-        MemoryOp::Min => Request::Update,
-        MemoryOp::Lda => Request::Read,
-        MemoryOp::Ldt => Request::Read,
-        MemoryOp::Ldx => Request::Read,
-        MemoryOp::Add => Request::Read,
-        MemoryOp::Sub => Request::Read,
-        MemoryOp::And => Request::Read,
-        MemoryOp::Ora => Request::Read,
-        MemoryOp::Mpy => Request::Read,
-        MemoryOp::Jmp => Request::Idle,
-        MemoryOp::Jpl => Request::Idle,
+        MemoryOp::Stz => Request::Write(0),
+        MemoryOp::Sta => Request::Write(reg(f, Register::A)),
+        MemoryOp::Stt => Request::Write(reg(f, Register::T)),
+        MemoryOp::Stx => Request::Write(reg(f, Register::X)),
+        MemoryOp::Std => Request::Several(true, 2),
+        MemoryOp::Ldd => Request::Several(false, 2),
+        MemoryOp::Stf => Request::Several(true, 3),
+        MemoryOp::Ldf => Request::Several(false, 3),
+        MemoryOp::Min => Request::Update(Change::Increment),
+        MemoryOp::Lda => Request::Read(Reading::LoadA),
+        MemoryOp::Ldt => Request::Read(Reading::LoadT),
+        MemoryOp::Ldx => Request::Read(Reading::LoadX),
+        MemoryOp::Add => Request::Read(Reading::Add),
+        MemoryOp::Sub => Request::Read(Reading::Subtract),
+        MemoryOp::And => Request::Read(Reading::And),
+        MemoryOp::Ora => Request::Read(Reading::Or),
+        MemoryOp::Mpy => Request::Read(Reading::Multiply),
+        MemoryOp::Jmp => Request::Jump,
+        MemoryOp::Jpl => Request::Link,
     }
 }

@@ -1,39 +1,30 @@
--- Laws of lists of accesses: which list, and stores one place further.
+-- An access by its address, places within memory, and stores one place further.
 -- Assumes nothing.
 use Prim.Native.Nat.{ℕ}
-use mathlib.Core.Path.{_≡_, refl}
-use mathlib.Core.Bool.{Bool, true, false, cond}
+use mathlib.Core.Path.{_≡_, refl, subst}
+use mathlib.Core.Bool.{Bool}
 use mathlib.Core.List.{List, [], _∷_, _++_}
 use lib.ListN.{set}
-use Rattle.isa.specs.Pages.{storeAll}
-use Rattle.isa.specs.Address.{access, sum}
-use Rattle.isa.specs.declared.access.Access.{Access}
+use Rattle.isa.specs.Pages.{translate, marked, faultOf, storeAll}
+use Rattle.isa.specs.Address.{access}
 use Rattle.isa.specs.declared.access.Kind.{Kind}
 use Rattle.isa.specs.declared.access.Rights.{Rights}
 use Rattle.isa.specs.declared.access.Translation.{Translation}
 use Rattle.isa.specs.declared.access.Translation.the-variants.{NoAccess, Load, Store, LoadTable, StoreTable, Protection, PageFault, OutOfRange}
-use Rattle.paging.specs.Outcome.{Outcome}
-use Rattle.places.specs.Accesses.{wordsFrom}
+use Rattle.paging.specs.Within.{AllWithin}
+use Rattle.paging.proofs.Outcomes.{Found, found-by}
+use Rattle.places.specs.Accesses.{placesOf}
+use Rattle.places.specs.declared.outcome.Places.{Places}
 
--- one of two lists of accesses
-module _ {t : List ℕ} {words : ℕ} {r : Rights} {before ps : List Translation} {z : Translation} {u : List ℕ} (xs ys : List Access) (b : Bool) where
-  pub first-list : b ≡ true → Outcome t words r before xs ps z u → Outcome t words r before (cond b xs ys) ps z u
-  first-list h o = rw h o
+-- what the code found of an access at the address b, which is a
+pub found-at :
+    {t : List ℕ} {words : ℕ} {r : Rights} {k : Kind} {alternate : Bool} {a b : ℕ} {y : Translation} {n : ℕ} {v : List ℕ} → b ≡ a
+    → (y ≡ translate t words r (access k alternate b)) × (v ≡ marked t words r (access k alternate b)) → n ≡ faultOf y
+    → Found t words r (access k alternate a) y n v
+found-at e h q = rw (← e) (found-by h q)
 
-  pub second-list : b ≡ false → Outcome t words r before ys ps z u → Outcome t words r before (cond b xs ys) ps z u
-  second-list h o = rw h o
-
--- one access, perhaps a second, and perhaps a third
-pub one-to-three : (x y z : Access) (b d : Bool) → x ∷ cond b [] (y ∷ cond d [] (z ∷ [])) ≡ cond b (x ∷ []) (cond d (x ∷ y ∷ []) (x ∷ y ∷ z ∷ []))
-one-to-three x y z true d = refl
-one-to-three x y z false true = refl
-one-to-three x y z false false = refl
-
--- two words from an address on, where the second stands at b
-pub just-two : {t : List ℕ} {words : ℕ} {r : Rights} {ps : List Translation} {z : Translation} {u : List ℕ} (k : Kind) (alternate : Bool) (a n : ℕ) {b : ℕ}
-    → b ≡ sum a 1 → n ≡ 2
-    → Outcome t words r [] (access k alternate a ∷ access k alternate b ∷ []) ps z u → Outcome t words r [] (wordsFrom k alternate a n) ps z u
-just-two k alternate a n e h o = rw h (simp e at o)
+pub within-of : (words : ℕ) {p q : Places} → p ≡ q → AllWithin words (placesOf p) → AllWithin words (placesOf q)
+within-of words e h = subst (λ (p : Places). AllWithin words (placesOf p)) e h
 
 -- a word that is not there is stored as 0
 pub padded : (m t : List ℕ) (xs : List Translation) (ws : List ℕ) → storeAll m t xs (ws ++ 0 ∷ []) ≡ storeAll m t xs ws

@@ -1,4 +1,5 @@
-// The accesses of an instruction: all of them tested before the first store, then words read from or stored to their places.
+// Two or three words of an instruction: all of them tested before the first store, then read from or stored to their places.
+pub mod operand;
 pub mod outcome;
 pub mod test;
 pub mod words;

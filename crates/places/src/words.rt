@@ -1,11 +1,11 @@
 // Words read from the places of accesses, and stored to them.
 ghost use mathlib.Core.Path.{_≡_};
-ghost use mathlib.Core.List.{List, _∷_};
-ghost use lib.ListN.{getD, length};
+ghost use mathlib.Core.List.{List, [], _∷_};
+ghost use lib.ListN.{length};
 ghost use Rattle.isa.specs.Pages.{wordsAt, storeAll, lent, wordsOf};
 ghost use Rattle.isa.specs.declared.access.Translation.{Translation as TranslationOf};
 ghost use Rattle.paging.specs.Within.{Within, AllWithin};
-ghost use Rattle.places.specs.Accesses.{placesOf, restOf};
+ghost use Rattle.places.specs.Accesses.{placesOf, threePlaces, restOf};
 use crate::outcome::Places;
 use isa::access::Translation;
 use isa::access::Triple;
@@ -13,31 +13,28 @@ use paging::place::is_store;
 use paging::place::store_at;
 use paging::place::word_at;
 
+// The words at three places.
+fn read_three(mem: &[u16], tables: &[u16], x: Translation, y: Translation, z: Translation) -> Triple
+    requires { ⌜ AllWithin (length (now mem)) (x ∷ y ∷ z ∷ []) ⌝ }
+    requires { ⌜ length (now tables) ≡ 256 ⌝ }
+    ensures { λ w. ⌜ wordsOf w ≡ wordsAt (now (mem .entry)) (now (tables .entry)) (x ∷ y ∷ z ∷ []) ⌝ }
+{
+    Triple {
+        a: word_at(mem, tables, x),
+        b: word_at(mem, tables, y),
+        c: word_at(mem, tables, z),
+    }
+}
+
 // The words at the places, 0 beyond them.
 pub fn read_all(mem: &[u16], tables: &[u16], p: Places) -> Triple
     requires { ⌜ AllWithin (length (now mem)) (placesOf p) ⌝ }
     requires { ⌜ length (now tables) ≡ 256 ⌝ }
-    ensures { λ w. ⌜ w .a ≡ getD (wordsAt (now (mem .entry)) (now (tables .entry)) (placesOf p)) 0 0 ⌝ }
-    ensures { λ w. ⌜ w .b ≡ getD (wordsAt (now (mem .entry)) (now (tables .entry)) (placesOf p)) 1 0 ⌝ }
-    ensures { λ w. ⌜ w .c ≡ getD (wordsAt (now (mem .entry)) (now (tables .entry)) (placesOf p)) 2 0 ⌝ }
+    ensures { λ w. ⌜ wordsOf w ≡ wordsAt (now (mem .entry)) (now (tables .entry)) (threePlaces p) ⌝ }
 {
     match p {
-        Places::Idle => Triple { a: 0, b: 0, c: 0 },
-        Places::One(x) => Triple {
-            a: word_at(mem, tables, x),
-            b: 0,
-            c: 0,
-        },
-        Places::Two(x, y) => Triple {
-            a: word_at(mem, tables, x),
-            b: word_at(mem, tables, y),
-            c: 0,
-        },
-        Places::Three(x, y, z) => Triple {
-            a: word_at(mem, tables, x),
-            b: word_at(mem, tables, y),
-            c: word_at(mem, tables, z),
-        },
+        Places::Two(x, y) => read_three(mem, tables, x, y, Translation::NoAccess),
+        Places::Three(x, y, z) => read_three(mem, tables, x, y, z),
         Places::Fault(_) => Triple { a: 0, b: 0, c: 0 },
     }
 }
@@ -89,10 +86,6 @@ pub fn store_all(mem: &mut [u16], tables: &mut [u16], p: Places, w: Triple)
     ensures { λ _. ⌜ lent (now (mem .exit)) (now (tables .exit)) ≡ storeAll (now (mem .entry)) (now (tables .entry)) (placesOf p) (wordsOf w) ⌝ }
 {
     match p {
-        Places::Idle => {}
-        Places::One(x) => {
-            stored(mem, tables, x, w);
-        }
         Places::Two(x, y) => {
             store_two(mem, tables, x, y, w);
         }

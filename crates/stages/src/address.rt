@@ -8,6 +8,7 @@ use isa::access::Rights;
 use isa::access::Translation;
 use isa::instruction::Mode;
 use isa::machine::Registers;
+use operands::address::address_rule;
 use operands::address::first_address;
 use operands::indirect::after_indirect;
 use operands::indirect::first_rule;
@@ -16,9 +17,9 @@ use paging::place::fault_of;
 use paging::place::word_at;
 use paging::translation::translate;
 
-// The address, or the failed access for the indirect word.
+// The address, and whether it goes by the alternate rule; or the failed access for the indirect word.
 pub enum Effective {
-    At(u16),
+    At(bool, u16),
     Failed(Translation),
 }
 
@@ -36,14 +37,17 @@ fn by_indirect(
     ensures { λ e. ⌜ ByIndirect (now (f .entry)) r m a (now (mem .entry)) (now (tables .entry)) e (now (tables .exit)) ⌝ }
 {
     let x = translate(tables, mem.len(), r, Kind::Indirect, first_rule(m), a);
-    if fault_of(x) == 0 {
-        return Effective::At(after_indirect(m, f, word_at(mem, tables, x)));
+    if fault_of(x) != 0 {
+        return Effective::Failed(x);
     }
-    Effective::Failed(x)
+    Effective::At(
+        address_rule(m),
+        after_indirect(m, f, word_at(mem, tables, x)),
+    )
 }
 
 // Of mode m and displacement d, of an instruction at the address `at`.
-pub fn address_of(
+pub(crate) fn address_of(
     f: &Registers,
     at: u16,
     r: Rights,
@@ -60,5 +64,5 @@ pub fn address_of(
     if has_indirect(m) {
         return by_indirect(f, r, mem, tables, m, a);
     }
-    Effective::At(a)
+    Effective::At(address_rule(m), a)
 }

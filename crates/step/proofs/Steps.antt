@@ -28,7 +28,7 @@ use Rattle.paging.proofs.Outcomes.{Found, passes-zero, fails-other}
 use Rattle.event.specs.Events.{eventPart}
 use Rattle.event.specs.declared.Event.the-variants.{Failed as Faulted}
 use Rattle.stages.specs.Stages.{coreOf, AfterFetch}
-use Rattle.stages.specs.declared.done.Done.{Done}
+use Rattle.serve.specs.declared.done.Done.{Done}
 use Rattle.step.specs.Steps.{InstructionStage, followed, ExecutedWord, QuickStep}
 use Rattle.step.proofs.Exr.{executed-followed}
 

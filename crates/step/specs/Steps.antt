@@ -16,8 +16,9 @@ use Rattle.isa.specs.declared.machine.File.{File}
 use Rattle.isa.specs.declared.machine.Register.the-variants.{P}
 use Rattle.execute.specs.Effects.{fileOf, applied}
 use Rattle.event.specs.Events.{eventPart}
-use Rattle.stages.specs.declared.done.Done.{Done}
-use Rattle.stages.specs.Stages.{ExecutingAt, doneIn, coreOf}
+use Rattle.serve.specs.declared.done.Done.{Done}
+use Rattle.serve.specs.Served.{doneIn}
+use Rattle.stages.specs.Stages.{ExecutingAt, coreOf}
 use Rattle.step.specs.declared.Quick.{Quick}
 
 -- what a stage answers for any instruction

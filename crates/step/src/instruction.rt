@@ -9,8 +9,8 @@ use isa::access::Rights;
 use isa::instruction::Instruction;
 use isa::machine::Registers;
 use paging::rights::rights;
-use stages::done::Done;
-use stages::done::with_event;
+use serve::done::Done;
+use serve::done::with_event;
 use stages::user::user_stage;
 
 // An instruction after EXR was followed: EXR itself is illegal here.

@@ -10,11 +10,20 @@ enum-told c = search needs
 enum-told-2 : tie.Need-enum-told-2
 enum-told-2 c = search needs
 
+reg-requires : tie.Need-reg-requires
+reg-requires c κs = search needs
+
 enum-told-3 : tie.Need-enum-told-3
 enum-told-3 c = search needs
 
+reg-requires-2 : tie.Need-reg-requires-2
+reg-requires-2 c κs = search needs
+
 enum-told-4 : tie.Need-enum-told-4
 enum-told-4 c = search needs
+
+reg-requires-3 : tie.Need-reg-requires-3
+reg-requires-3 c κs = search needs
 
 enum-told-5 : tie.Need-enum-told-5
 enum-told-5 c = search needs
@@ -124,8 +133,11 @@ request-of-spec =
     (tie.spec
     enum-told
     enum-told-2
+    reg-requires
     enum-told-3
+    reg-requires-2
     enum-told-4
+    reg-requires-3
     enum-told-5
     enum-told-6
     enum-told-7

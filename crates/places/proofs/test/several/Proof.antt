@@ -1,16 +1,10 @@
--- One access, and after it none, one or two.
+-- One access after the other, up to the first that fails.
 -- Assumes nothing.
-use mathlib.Core.Bool.{cond}
-use mathlib.Core.List.{[], _∷_}
-use mathlib.Core.Path.{_∙_}
-use lib.Dec.{eqb}
 use borrow.Author.Needs.{needs}
+use mathlib.Core.Path.{_∙_}
 use borrow.Author.Tests.{eq-eqb, ne-eqb}
-use Rattle.isa.specs.Address.{access, sum}
-use Rattle.paging.proofs.Outcomes.{Found, done, found-within, found-passed, found-failed}
-use Rattle.paging.specs.Outcome.{Outcome}
-use Rattle.places.proofs.Laws.{one-to-three, first-list, second-list}
-use Rattle.places.specs.Accesses.{placesOf, faultIn}
+use Rattle.paging.proofs.Outcomes.{found-by, found-within, found-passed, found-failed, done}
+use Rattle.places.proofs.Laws.{found-at}
 use Rattle.places.proofs.test.several.Statement.{statement}
 use Rattle.places.proofs.test.several.Tie as tie
 
@@ -25,52 +19,59 @@ same-length c = search needs
 
 returns : tie.Need-returns
 returns c =
-    let a = c .before .before .before .before .before .before .before .before .args in
-    let x = c .before .before .before .before .before .translate in
-    let u = access (a .k) (a .alternate) (a .a) in
-    let v = access (a .k) (a .alternate) (sum (a .a) 1) in
-    let w = access (a .k) (a .alternate) (sum (a .a) 2) in
-    let f : Found (a .tables .now) (a .words) (a .r) u (x .result) (c .before .before .fault-of .result) (x .last .0) = record { place = x .ensures .0; marks = x .ensures .1; fault = c .before .before .fault-of .ensures } in
-    rw (← one-to-three u v w (eqb (a .n) 1) (eqb (a .n) 2)) (found-passed f (c .before .if1 .taken) (first-list _ _ (eqb (a .n) 1) (eq-eqb _ _ (c .if2 .taken)) (done (found-within f, tt))))
+    found-failed (found-by (c .before .before .before .before .translate .ensures) (c .before .fault-of .ensures)) (c .if1 .taken) tt
 
 wrapping-add-u16-requires : tie.Need-wrapping-add-u16-requires
 wrapping-add-u16-requires c κs = search needs
 
-second-requires : tie.Need-second-requires
-second-requires c κs =
-    let then = c .before .before .before .before .before .before .before .before .before in
-    let start = then .before in
-    let a = c .before .before .before .before .before .before .before .before .before .before .args in
-    let x = c .before .before .before .before .before .before .before .translate in
-    let f : Found (a .tables .now) (a .words) (a .r) (access (a .k) (a .alternate) (a .a)) (x .result) (c .before .before .before .before .fault-of .result) (x .last .0) = record { place = x .ensures .0; marks = x .ensures .1; fault = c .before .before .before .before .fault-of .ensures } in
-    (start .pre .0, (x .kept .0 ∙ start .pre .1, found-within f))
+translate-requires-2 : tie.Need-translate-requires-2
+translate-requires-2 c κs = search needs
+
+fault-of-requires-2 : tie.Need-fault-of-requires-2
+fault-of-requires-2 c κs = search needs
 
 same-length-2 : tie.Need-same-length-2
 same-length-2 c = search needs
 
 returns-2 : tie.Need-returns-2
 returns-2 c =
-    let a = c .before .before .before .before .before .before .before .before .before .before .before .before .before .args in
-    let x = c .before .before .before .before .before .before .before .before .before .before .translate in
-    let u = access (a .k) (a .alternate) (a .a) in
-    let v = access (a .k) (a .alternate) (sum (a .a) 1) in
-    let w = access (a .k) (a .alternate) (sum (a .a) 2) in
-    let f : Found (a .tables .now) (a .words) (a .r) u (x .result) (c .before .before .before .before .before .before .before .fault-of .result) (x .last .0) = record { place = x .ensures .0; marks = x .ensures .1; fault = c .before .before .before .before .before .before .before .fault-of .ensures } in
-    let o : Outcome (x .last .0) (a .words) (a .r) (x .result ∷ []) (v ∷ cond (eqb (a .n) 2) [] (w ∷ [])) (placesOf (c .before .before .second .result)) (faultIn (c .before .before .second .result)) (c .before .before .second .last .0) = simp (c .before .before .before .wrapping-add-u16 .ensures) at (c .before .before .second .ensures) in
-    rw (← one-to-three u v w (eqb (a .n) 1) (eqb (a .n) 2)) (found-passed f (c .before .before .before .before .before .before .if1 .taken) (second-list _ _ (eqb (a .n) 1) (ne-eqb _ _ (c .before .before .before .before .before .if2 .left)) o))
+    let second = c .before .before .before .before in
+    let first = second .before .before .before .before .before .before .before in
+    let f = found-by (first .translate .ensures) (second .before .before .before .before .fault-of .ensures) in
+    let g = found-at (second .before .before .wrapping-add-u16 .ensures) (second .translate2 .ensures) (c .before .fault-of2 .ensures) in
+    found-passed f (second .before .before .before .if1 .left) (found-failed g (c .if2 .taken) tt)
 
 same-length-3 : tie.Need-same-length-3
 same-length-3 c = search needs
 
 returns-3 : tie.Need-returns-3
 returns-3 c =
-    let a = c .before .before .before .before .before .before .before .args in
-    let x = c .before .before .before .before .translate in
-    let u = access (a .k) (a .alternate) (a .a) in
-    let v = access (a .k) (a .alternate) (sum (a .a) 1) in
-    let w = access (a .k) (a .alternate) (sum (a .a) 2) in
-    let f : Found (a .tables .now) (a .words) (a .r) u (x .result) (c .before .fault-of .result) (x .last .0) = record { place = x .ensures .0; marks = x .ensures .1; fault = c .before .fault-of .ensures } in
-    rw (← one-to-three u v w (eqb (a .n) 1) (eqb (a .n) 2)) (found-failed f (c .if1 .left) tt)
+    let second = c .before .before .before .before .before in
+    let f = found-by (second .before .before .before .before .before .before .before .translate .ensures) (second .before .before .before .before .fault-of .ensures) in
+    let g = found-at (second .before .before .wrapping-add-u16 .ensures) (second .translate2 .ensures) (c .before .before .fault-of2 .ensures) in
+    found-passed f (second .before .before .before .if1 .left)
+    (found-passed g (c .before .if2 .left) (rw (eq-eqb _ _ (c .if3 .taken)) (done (found-within f, (found-within g, tt)))))
+
+third-requires : tie.Need-third-requires
+third-requires c κs =
+    let second = c .before .before .before .before .before .before in
+    let first = second .before .before .before .before .before .before .before in
+    let f = found-by (first .translate .ensures) (second .before .before .before .before .fault-of .ensures) in
+    let g = found-by (second .translate2 .ensures) (c .before .before .before .fault-of2 .ensures) in
+    let start = first .before .before .before .before in
+    (start .pre .0, (second .translate2 .kept .0 ∙ first .translate .kept .0 ∙ start .pre .1, (found-within f, found-within g)))
+
+same-length-4 : tie.Need-same-length-4
+same-length-4 c = search needs
+
+returns-4 : tie.Need-returns-4
+returns-4 c =
+    let tested = c .before .before .before .before in
+    let second = tested .before .before .before .before .before in
+    let f = found-by (second .before .before .before .before .before .before .before .translate .ensures) (second .before .before .before .before .fault-of .ensures) in
+    let g = found-at (second .before .before .wrapping-add-u16 .ensures) (second .translate2 .ensures) (tested .before .before .fault-of2 .ensures) in
+    found-passed f (second .before .before .before .if1 .left)
+    (found-passed g (tested .before .if2 .left) (rw (ne-eqb _ _ (tested .if3 .left)) (c .before .before .third .ensures)))
 
 pub several-spec : {M : Type 1} → statement M
 several-spec =
@@ -81,8 +82,12 @@ several-spec =
     same-length
     returns
     wrapping-add-u16-requires
-    second-requires
+    translate-requires-2
+    fault-of-requires-2
     same-length-2
     returns-2
     same-length-3
-    returns-3)
+    returns-3
+    third-requires
+    same-length-4
+    returns-4)

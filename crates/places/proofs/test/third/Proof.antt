@@ -1,9 +1,8 @@
--- The third access passes or stops the test.
+-- The third access fails, or passes.
 -- Assumes nothing.
 use borrow.Author.Needs.{needs}
-use Rattle.isa.specs.Address.{access, sum}
-use Rattle.isa.specs.Pages.{translate}
-use Rattle.paging.proofs.Outcomes.{Found, done, found-within, found-passed, found-failed}
+use Rattle.paging.proofs.Outcomes.{found-within, found-passed, found-failed, done}
+use Rattle.places.proofs.Laws.{found-at}
 use Rattle.places.proofs.test.third.Statement.{statement}
 use Rattle.places.proofs.test.third.Tie as tie
 
@@ -21,20 +20,16 @@ same-length c = search needs
 
 returns : tie.Need-returns
 returns c =
-    let a = c .before .before .before .before .before .before .before .before .args in
-    let z = c .before .before .before .before .translate in
-    let f : Found (a .tables .now) (a .words) (a .r) (access (a .k) (a .alternate) (sum (a .a) 2)) (z .result) (c .before .fault-of .result) (z .last .0) = record { place = simp (c .before .before .before .before .before .wrapping-add-u16 .ensures) at (z .ensures .0); marks = simp (c .before .before .before .before .before .wrapping-add-u16 .ensures) at (z .ensures .1); fault = c .before .fault-of .ensures } in
-    found-passed f (c .if1 .taken) (done (c .before .before .before .before .before .before .before .before .pre .1 .1 .0, (c .before .before .before .before .before .before .before .before .pre .1 .1 .1, (found-within f, tt))))
+    found-failed (found-at (c .before .before .before .before .before .before .wrapping-add-u16 .ensures) (c .before .before .before .before .translate .ensures) (c .before .fault-of .ensures)) (c .if1 .taken) tt
 
 same-length-2 : tie.Need-same-length-2
 same-length-2 c = search needs
 
 returns-2 : tie.Need-returns-2
 returns-2 c =
-    let a = c .before .before .before .before .before .before .before .before .args in
-    let z = c .before .before .before .before .translate in
-    let f : Found (a .tables .now) (a .words) (a .r) (access (a .k) (a .alternate) (sum (a .a) 2)) (z .result) (c .before .fault-of .result) (z .last .0) = record { place = simp (c .before .before .before .before .before .wrapping-add-u16 .ensures) at (z .ensures .0); marks = simp (c .before .before .before .before .before .wrapping-add-u16 .ensures) at (z .ensures .1); fault = c .before .fault-of .ensures } in
-    found-failed f (c .if1 .left) tt
+    let within = c .before .before .before .before .before .before .before .before .before .pre .1 .1 in
+    let h = found-at (c .before .before .before .before .before .before .wrapping-add-u16 .ensures) (c .before .before .before .before .translate .ensures) (c .before .fault-of .ensures) in
+    found-passed h (c .if1 .left) (done (within .0, (within .1, (found-within h, tt))))
 
 pub third-spec : {M : Type 1} → statement M
 third-spec =

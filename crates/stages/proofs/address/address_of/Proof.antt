@@ -1,13 +1,9 @@
 -- A mode with an indirect word goes by that word, one without by base and displacement.
 -- Assumes nothing.
-use mathlib.Core.Path.{_∙_, ap, sym}
-use lib.IntN.{ℤ}
-use mir.Syntax.{w16}
-use mir.ValLaws.{toZ-ofZ}
-use Rattle.execute.specs.Effects.{fileOf}
-use Rattle.operands.specs.Addresses.{firstAt}
-use Rattle.stages.proofs.Stages.{addressed-indirect, addressed-direct}
 use borrow.Author.Needs.{needs}
+use mathlib.Core.Path.{_∙_, sym}
+use Rattle.execute.specs.Effects.{fileOf}
+use Rattle.stages.proofs.Stages.{first-is, addressed-indirect, addressed-direct}
 use Rattle.stages.proofs.address.address_of.Statement.{statement}
 use Rattle.stages.proofs.address.address_of.Tie as tie
 
@@ -25,18 +21,20 @@ same-length c = search needs
 
 returns : tie.Need-returns
 returns c =
-    let i = c .before .before .before .before in
-    let b = i .before .before .before .before .before in
-    let a = b .args in
-    let e = i .before .before .first-address .ensures ∙ ap (λ (z : ℤ). firstAt (a .m) z (fileOf (a .f .now)) (a .at)) (toZ-ofZ w16 (a .d) (b .fits .d)) in
-    addressed-indirect _ _ _ _ _ (a .m) (a .d) _ e _ _ (sym (i .before .has-indirect .ensures) ∙ i .if1 .taken) (c .before .before .by-indirect .ensures)
+    let b = c .before .before .before .before .before .before in
+    let a = b .before .before .before .args in
+    let e = first-is (a .m) (fileOf (a .f .now)) (a .at) (b .before .before .before .fits .d) (b .first-address .ensures) in
+    addressed-indirect _ _ _ _ _ (a .m) (a .d) _ e _ _ (sym (c .before .before .before .before .before .has-indirect .ensures) ∙ c .before .before .before .before .if1 .taken) (c .before .before .by-indirect .ensures)
+
+address-rule-requires : tie.Need-address-rule-requires
+address-rule-requires c κs = search needs
 
 returns-2 : tie.Need-returns-2
 returns-2 c =
-    let b = c .before .before .before .before .before in
-    let a = b .args in
-    let e = c .before .before .first-address .ensures ∙ ap (λ (z : ℤ). firstAt (a .m) z (fileOf (a .f .now)) (a .at)) (toZ-ofZ w16 (a .d) (b .fits .d)) in
-    addressed-direct _ _ _ _ _ (a .m) (a .d) _ e (sym (c .before .has-indirect .ensures) ∙ c .if1 .left)
+    let b = c .before .before .before in
+    let a = b .before .before .before .args in
+    let e = first-is (a .m) (fileOf (a .f .now)) (a .at) (b .before .before .before .fits .d) (b .first-address .ensures) in
+    addressed-direct _ _ _ _ _ (a .m) (a .d) _ e _ (sym (c .before .before .has-indirect .ensures) ∙ c .before .if1 .left) (c .address-rule .ensures)
 
 pub address-of-spec : {M : Type 1} → statement M
 address-of-spec =
@@ -47,4 +45,5 @@ address-of-spec =
     by-indirect-requires
     same-length
     returns
+    address-rule-requires
     returns-2)

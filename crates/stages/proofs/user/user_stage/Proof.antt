@@ -1,14 +1,10 @@
--- A memory operation, or another instruction.
+-- A memory operation, LBYT, SBYT, or an instruction that makes no access.
 -- Assumes nothing.
-use mathlib.Core.Path.{sym, ap, _∙_}
-use lib.IntN.{ℤ}
-use mir.Syntax.{w16}
-use mir.ValLaws.{toZ-ofZ}
-use mir.Val.{SFits}
-use Rattle.isa.specs.Step.{userStage}
-use Rattle.isa.specs.declared.instruction.User.the-variants.{Memory}
-use Rattle.stages.proofs.Stages.{no-memory}
 use borrow.Author.Needs.{needs}
+use mir.Syntax.{w16}
+use mir.Val.{SFits}
+use mir.ValLaws.{toZ-ofZ}
+use Rattle.stages.proofs.Stages.{byte-read, byte-put, register-served}
 use Rattle.stages.proofs.user.user_stage.Statement.{statement}
 use Rattle.stages.proofs.user.user_stage.Tie as tie
 
@@ -26,19 +22,19 @@ same-length-2 c = search needs
 
 returns : tie.Need-returns
 returns c =
-    let u = c .before .before .before .before .before .before .before .before in
-    let a = u .before .before .before .before .args in
-    let v = u .u .given .0 in
-    let h : SFits w16 (v .1 .1 .0) = search needs in
-    λ l k s.
-    c .before .before .before .before .memory-stage .ensures l k s
-    ∙ ap (λ (d : ℤ). userStage k (a .mem .now) (a .tables .now) (Memory (v .0) (v .1 .0) d)) (toZ-ofZ w16 (v .1 .1 .0) h)
-    ∙ ap (userStage k (a .mem .now) (a .tables .now)) (sym (u .u .given .1))
+    let b = c .before .before .before .before .before .before .before .before in
+    let d = b .u .given .0 .1 .1 .0 in
+    let h : SFits w16 d = search needs in
+    rw (b .u .given .1) (simp (toZ-ofZ w16 d h) at (c .before .before .before .before .memory-stage .ensures))
 
-other-stage-requires : tie.Need-other-stage-requires
-other-stage-requires c κs =
-    let b = c .before .before .before .before .before in
-    (b .pre .0, (b .pre .1, no-memory (b .args .u) (c .before .before .match .keys2)))
+enum-told : tie.Need-enum-told
+enum-told c = search needs
+
+byte-operand-requires : tie.Need-byte-operand-requires
+byte-operand-requires c κs = search needs
+
+read-word-requires : tie.Need-read-word-requires
+read-word-requires c κs = (rw (c .byte-operand .ensures) (c .before .before .before .before .before .before .before .before .pre .0), c .before .before .before .before .before .before .before .before .pre .1)
 
 same-length-3 : tie.Need-same-length-3
 same-length-3 c = search needs
@@ -47,7 +43,40 @@ same-length-4 : tie.Need-same-length-4
 same-length-4 c = search needs
 
 returns-2 : tie.Need-returns-2
-returns-2 c = search needs
+returns-2 c =
+    let a = c .before .before .before .before .before .before .before .before .before .before .before .args in
+    byte-read (a .f .now) (a .mem .now) (a .tables .now) (a .at) (a .r) (c .before .before .before .byte-operand .ensures) _ _ _ (c .before .before .before .before .before .before .enum-told .given .1)
+    (c .before .before .read-word .ensures)
+
+enum-told-2 : tie.Need-enum-told-2
+enum-told-2 c = search needs
+
+byte-operand-requires-2 : tie.Need-byte-operand-requires-2
+byte-operand-requires-2 c κs = search needs
+
+put-byte-requires : tie.Need-put-byte-requires
+put-byte-requires c κs = (rw (c .byte-operand2 .ensures) (c .before .before .before .before .before .before .before .before .before .pre .0), c .before .before .before .before .before .before .before .before .before .pre .1)
+
+same-length-5 : tie.Need-same-length-5
+same-length-5 c = search needs
+
+same-length-6 : tie.Need-same-length-6
+same-length-6 c = search needs
+
+returns-3 : tie.Need-returns-3
+returns-3 c =
+    let a = c .before .before .before .before .before .before .before .before .before .before .before .before .before .before .args in
+    byte-put (a .f .now) (a .mem .now) (a .tables .now) (a .at) (a .r) (c .before .before .before .before .before .byte-operand2 .ensures) _ _ _ (c .before .before .before .before .before .before .before .before .enum-told2 .given .1)
+    (c .before .before .before .before .put-byte .ensures)
+
+register-stage-requires : tie.Need-register-stage-requires
+register-stage-requires c κs = search needs
+
+returns-4 : tie.Need-returns-4
+returns-4 c =
+    let a = c .before .before .before .before .before .before .args in
+    register-served (a .f .now) (a .mem .now) (a .tables .now) (a .at) (a .r) (a .u) _ (c .before .before .before .match .keys2) (c .before .before .match2 .keys2)
+    (c .before .match3 .keys2) (c .register-stage .ensures)
 
 pub user-stage-spec : {M : Type 1} → statement M
 user-stage-spec =
@@ -58,7 +87,17 @@ user-stage-spec =
     same-length
     same-length-2
     returns
-    other-stage-requires
+    enum-told
+    byte-operand-requires
+    read-word-requires
     same-length-3
     same-length-4
-    returns-2)
+    returns-2
+    enum-told-2
+    byte-operand-requires-2
+    put-byte-requires
+    same-length-5
+    same-length-6
+    returns-3
+    register-stage-requires
+    returns-4)

@@ -1,0 +1,2 @@
+-- What serving a request answers to, beside the definitions of the machine.
+pub mod Served
