@@ -5,11 +5,13 @@ use native.Mathlib.Nat.{div-add-mod', mod-lt, div-lt-iff-lt-mul, div-one, mul-on
 use native.Mathlib.Numerals.{add-one}
 use native.Mathlib.Omega.{arith}
 use mathlib.Core.Path.{_≡_, sym, ap, _∙_, subst}
+use mathlib.Core.Bool.{Bool, true, false}
 use lib.Pow.{pow-pos, shr-shr, mod-mod-pow}
 use lib.Arith.{mod-mul, digits-lt, digits-div, digits-mod}
 use lib.Dec.{lit<}
-use lib.IntN.{ℤ, pos, negsuc}
-use Rattle.isa.specs.Flags.{Shifted, lowerInput, upperInput, leftOnce, rightOnce, leftBy, rightBy, shiftBy}
+use lib.IntN.{ℤ, pos, natAbs}
+use lib.Signed.{leZ}
+use Rattle.isa.specs.Flags.{Shifted, lowerInput, upperInput, leftOnce, rightOnce, once, placesBy, shiftBy}
 use Rattle.isa.specs.declared.instruction.ShiftKind.{ShiftKind}
 use Rattle.isa.specs.declared.instruction.ShiftKind.the-variants.{Arithmetic, Rotational, ZeroInput, LinkInput}
 use Rattle.isa.proofs.Signed.{twice-half}
@@ -33,6 +35,9 @@ upper-bit ZeroInput top low m p q r = lit< tt
 upper-bit LinkInput top low m p q r = r
 
 module _ (w : ℕ) (h : 0 < w) where
+  abbrev half : ℕ
+  half = 2 ^ (w - 1)
+
   -- the top bit of a value of the width
   top-bit : (v : ℕ) → v < 2 ^ w → v / 2 ^ (w - 1) < 2
   top-bit v l = div-lt-iff-lt-mul (pow-pos (w - 1)) .1 (subst (λ (x : ℕ). v < x) (twice-half w h ∙ mul-comm (2 ^ (w - 1)) 2) l)
@@ -41,72 +46,68 @@ module _ (w : ℕ) (h : 0 < w) where
   half-below v l = div-lt-iff-lt-mul (lit< tt) .1 (subst (λ (x : ℕ). v < x) (twice-half w h) l)
 
   -- a single shift stays in the width
-  pub left-once-narrow : (k : ShiftKind) (s : Shifted) → Narrow w s → Narrow w (leftOnce w k s)
-  unfolding leftOnce
-  left-once-narrow k s g =
+  pub once-narrow : (left : Bool) (k : ShiftKind) (s : Shifted) → Narrow w s → Narrow w (once left w k s)
+  unfolding leftOnce rightOnce
+  once-narrow true k s g =
       let top = top-bit (s .value) (g .value) in
-      let low = lower-bit k (s .value / 2 ^ (w - 1)) (s .m) top (g .m) in
+      let low = lower-bit k (s .value / half) (s .m) top (g .m) in
       record {
-        value = subst (λ (x : ℕ). s .value % 2 ^ (w - 1) * 2 + lowerInput k (s .value / 2 ^ (w - 1)) (s .m) < x) (sym (twice-half w h)) (digits-lt (mod-lt (s .value) (pow-pos (w - 1))) low);
+        value =
+            subst (λ (x : ℕ). s .value % half * 2 + lowerInput k (s .value / half) (s .m) < x) (sym (twice-half w h))
+            (digits-lt (mod-lt (s .value) (pow-pos (w - 1))) low);
         m = top;
       }
-
-  pub right-once-narrow : (k : ShiftKind) (s : Shifted) → Narrow w s → Narrow w (rightOnce w k s)
-  unfolding rightOnce
-  right-once-narrow k s g =
+  once-narrow false k s g =
       let top = top-bit (s .value) (g .value) in
       let low : s .value % 2 < 2 = mod-lt (s .value) (lit< tt) in
-      let up = upper-bit k (s .value / 2 ^ (w - 1)) (s .value % 2) (s .m) top low (g .m) in
+      let up = upper-bit k (s .value / half) (s .value % 2) (s .m) top low (g .m) in
       record {
-        value = subst (λ (x : ℕ). upperInput k (s .value / 2 ^ (w - 1)) (s .value % 2) (s .m) * 2 ^ (w - 1) + s .value / 2 < x) (mul-comm 2 (2 ^ (w - 1)) ∙ sym (twice-half w h)) (digits-lt up (half-below (s .value) (g .value)));
+        value =
+            subst (λ (x : ℕ). upperInput k (s .value / half) (s .value % 2) (s .m) * half + s .value / 2 < x)
+            (mul-comm 2 half ∙ sym (twice-half w h)) (digits-lt up (half-below (s .value) (g .value)));
         m = low;
       }
 
   -- so does a shift by any count
-  pub left-narrow : (k : ShiftKind) (n : ℕ) (s : Shifted) → Narrow w s → Narrow w (leftBy w k n s)
-  left-narrow k zero s g = g
-  left-narrow k (suc n) s g = left-once-narrow k (leftBy w k n s) (left-narrow k n s g)
+  pub places-narrow : (left : Bool) (k : ShiftKind) (n : ℕ) (s : Shifted) → Narrow w s → Narrow w (placesBy left w k n s)
+  places-narrow left k zero s g = g
+  places-narrow left k (suc n) s g = once-narrow left k (placesBy left w k n s) (places-narrow left k n s g)
 
-  pub right-narrow : (k : ShiftKind) (n : ℕ) (s : Shifted) → Narrow w s → Narrow w (rightBy w k n s)
-  right-narrow k zero s g = g
-  right-narrow k (suc n) s g = right-once-narrow k (rightBy w k n s) (right-narrow k n s g)
-
-  -- to the left or to the right
   pub shift-narrow : (k : ShiftKind) (z : ℤ) (s : Shifted) → Narrow w s → Narrow w (shiftBy w k z s)
-  shift-narrow k (pos n) s g = left-narrow k n s g
-  shift-narrow k (negsuc n) s g = right-narrow k (suc n) s g
+  shift-narrow k z s g = places-narrow (leZ (pos 0) z) k (natAbs z) s g
 
--- shifting by i + j is shifting by j, then by i, in any width
-pub left-split : (w : ℕ) (k : ShiftKind) (i j : ℕ) (s : Shifted) → leftBy w k (j + i) s ≡ leftBy w k i (leftBy w k j s)
-left-split w k zero j s = ap (λ (n : ℕ). leftBy w k n s) (add-zero j)
-left-split w k (suc i) j s = ap (λ (n : ℕ). leftBy w k n s) q ∙ ap (leftOnce w k) (left-split w k i j s)
-  where
-    q : j + suc i ≡ suc (j + i)
-    q = omega arith
-
-pub right-split : (w : ℕ) (k : ShiftKind) (i j : ℕ) (s : Shifted) → rightBy w k (j + i) s ≡ rightBy w k i (rightBy w k j s)
-right-split w k zero j s = ap (λ (n : ℕ). rightBy w k n s) (add-zero j)
-right-split w k (suc i) j s = ap (λ (n : ℕ). rightBy w k n s) q ∙ ap (rightOnce w k) (right-split w k i j s)
+-- shifting by i + j is shifting by j, then by i, in any direction and width
+pub places-split :
+    (left : Bool) (w : ℕ) (k : ShiftKind) (i j : ℕ) (s : Shifted)
+    → placesBy left w k (j + i) s ≡ placesBy left w k i (placesBy left w k j s)
+places-split left w k zero j s = ap (λ (n : ℕ). placesBy left w k n s) (add-zero j)
+places-split left w k (suc i) j s = ap (λ (n : ℕ). placesBy left w k n s) q ∙ ap (once left w k) (places-split left w k i j s)
   where
     q : j + suc i ≡ suc (j + i)
     q = omega arith
 
 -- with zeros coming in from above, n + 1 places are a division, and M is the last bit out
 module _ (w v m : ℕ) where
-  right-value : (n : ℕ) → rightBy w ZeroInput n (record { value = v; m = m }) .value ≡ v / 2 ^ n
+  abbrev right : ℕ → Shifted
+  right n = placesBy false w ZeroInput n (record { value = v; m = m })
+
+  right-value : (n : ℕ) → right n .value ≡ v / 2 ^ n
   unfolding rightOnce
   right-value zero = sym (div-one v)
   right-value (suc n) =
       simp zero-mul
-      (ap (λ (x : ℕ). 0 + x / 2) (right-value n) ∙ zero-plus (v / 2 ^ n / 2) ∙ shr-shr v n 1 ∙ ap (λ (j : ℕ). v / 2 ^ j) (add-one n))
+      (ap (λ (x : ℕ). 0 + x / 2) (right-value n)
+      ∙ zero-plus (v / 2 ^ n / 2)
+      ∙ shr-shr v n 1
+      ∙ ap (λ (j : ℕ). v / 2 ^ j) (add-one n))
     where
       zero-plus : (x : ℕ) → 0 + x ≡ x
       zero-plus x = omega arith
 
-  pub zero-right : (n : ℕ) → rightBy w ZeroInput (suc n) (record { value = v; m = m }) ≡ record { value = v / 2 ^ suc n; m = v / 2 ^ n % 2 }
+  pub zero-right : (n : ℕ) → right (suc n) ≡ record { value = v / 2 ^ suc n; m = v / 2 ^ n % 2 }
   unfolding rightOnce
   zero-right n =
-      ap (λ (x : ℕ). record { value = x; m = rightBy w ZeroInput n (record { value = v; m = m }) .value % 2 }) (right-value (suc n))
+      ap (λ (x : ℕ). record { value = x; m = right n .value % 2 }) (right-value (suc n))
       ∙ ap (λ (x : ℕ). record { value = v / 2 ^ suc n; m = x % 2 }) (right-value n)
 
 -- with zeros coming in from below, n + 1 places are a product in the width, and M is the last bit out
@@ -123,7 +124,10 @@ module _ (w v m : ℕ) (h : 0 < w) (l : v < 2 ^ w) where
       q : w ≡ 1 + (w - 1)
       q = omega arith
 
-  left-value : (n : ℕ) → leftBy w ZeroInput n (record { value = v; m = m }) .value ≡ (v * 2 ^ n) % 2 ^ w
+  abbrev left : ℕ → Shifted
+  left n = placesBy true w ZeroInput n (record { value = v; m = m })
+
+  left-value : (n : ℕ) → left n .value ≡ (v * 2 ^ n) % 2 ^ w
   unfolding leftOnce
   left-value zero = sym (mod-eq-of-lt l) ∙ ap (λ (x : ℕ). x % 2 ^ w) (sym (mul-one v))
   left-value (suc n) =
@@ -131,10 +135,10 @@ module _ (w v m : ℕ) (h : 0 < w) (l : v < 2 ^ w) where
       ∙ left-step (v * 2 ^ n)
       ∙ ap (λ (x : ℕ). x % 2 ^ w) (mul-assoc v (2 ^ n) 2 ∙ ap (λ (x : ℕ). v * x) (sym (pow-suc 2 n)))
 
-  pub zero-left : (n : ℕ) → leftBy w ZeroInput (suc n) (record { value = v; m = m }) ≡ record { value = (v * 2 ^ suc n) % 2 ^ w; m = (v * 2 ^ n) % 2 ^ w / 2 ^ (w - 1) }
+  pub zero-left : (n : ℕ) → left (suc n) ≡ record { value = (v * 2 ^ suc n) % 2 ^ w; m = (v * 2 ^ n) % 2 ^ w / 2 ^ (w - 1) }
   unfolding leftOnce
   zero-left n =
-      ap (λ (x : ℕ). record { value = x; m = leftBy w ZeroInput n (record { value = v; m = m }) .value / 2 ^ (w - 1) }) (left-value (suc n))
+      ap (λ (x : ℕ). record { value = x; m = left n .value / 2 ^ (w - 1) }) (left-value (suc n))
       ∙ ap (λ (x : ℕ). record { value = (v * 2 ^ suc n) % 2 ^ w; m = x / 2 ^ (w - 1) }) (left-value n)
 
   -- a rotation to the left and one back give the value again

@@ -1,6 +1,6 @@
 -- Document 01, "Flags and signs".
 use Prim.Native.Nat.{ℕ, zero, suc, _+_, _-_, _*_, _/_, _%_, _^_}
-use mathlib.Core.Bool.{Bool, cond, not, _||_}
+use mathlib.Core.Bool.{Bool, true, false, cond, not, _||_}
 use lib.Dec.{ltb, leb, eqb}
 use lib.IntN.{ℤ, pos, negsuc, natAbs, _+ℤ_, _*ℤ_}
 use lib.Signed.{mag, leZ, quotZ, remZ}
@@ -96,19 +96,19 @@ rightOnce w k s =
     let low = s .value % 2 in
     record { value = upperInput k top low (s .m) * 2 ^ (w - 1) + s .value / 2; m = low }
 
--- So many single shifts. "M gets the last bit shifted out. Count 0 changes nothing."
-abbrev pub leftBy : ℕ → ShiftKind → ℕ → Shifted → Shifted
-leftBy w k zero s = s
-leftBy w k (suc n) s = leftOnce w k (leftBy w k n s)
+-- One place in a direction.
+abbrev pub once : Bool → ℕ → ShiftKind → Shifted → Shifted
+once true w k s = leftOnce w k s
+once false w k s = rightOnce w k s
 
-abbrev pub rightBy : ℕ → ShiftKind → ℕ → Shifted → Shifted
-rightBy w k zero s = s
-rightBy w k (suc n) s = rightOnce w k (rightBy w k n s)
+-- So many single shifts. "M gets the last bit shifted out. Count 0 changes nothing."
+abbrev pub placesBy : Bool → ℕ → ShiftKind → ℕ → Shifted → Shifted
+placesBy left w k zero s = s
+placesBy left w k (suc n) s = once left w k (placesBy left w k n s)
 
 -- "The shift count is .. left when positive."
 abbrev pub shiftBy : ℕ → ShiftKind → ℤ → Shifted → Shifted
-shiftBy w k (pos n) s = leftBy w k n s
-shiftBy w k (negsuc n) s = rightBy w k (suc n) s
+shiftBy w k n s = placesBy (leZ (pos 0) n) w k (natAbs n) s
 
 -- "GEQ tests the sign of dr - sr in 16 bits; GRE is the true signed comparison." MGRE compares without signs (document 002:
 -- C = 1 of dr - sr), and the other four are the complements.

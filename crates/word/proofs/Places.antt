@@ -4,12 +4,13 @@ use Prim.Native.Nat.{ℕ, _+_, _-_, _*_, _/_, _%_, _^_, _<_, _≤_}
 use native.Mathlib.Nat.{one-mul}
 use native.Mathlib.Omega.{arith}
 use mathlib.Core.Path.{_≡_, sym, ap, _∙_, subst}
+use mathlib.Core.Bool.{Bool, true, false}
 use lib.Dec.{lit<}
 use lib.Pow.{pow-pos, pow-mono}
-use Rattle.isa.specs.Flags.{lowerInput, upperInput, leftOnce, rightOnce}
+use Rattle.isa.specs.Flags.{lowerInput, upperInput, leftOnce, rightOnce, once}
 use Rattle.isa.specs.Flags as Flags
 use Rattle.isa.specs.declared.instruction.ShiftKind.{ShiftKind}
-use Rattle.isa.proofs.Shifts.{Narrow, left-once-narrow, right-once-narrow}
+use Rattle.isa.proofs.Shifts.{Narrow, once-narrow}
 use Rattle.word.specs.declared.shift.Shifted.{Shifted}
 use Rattle.word.specs.Results.{shiftedOf, InWidth}
 use Rattle.word.proofs.Fields.{placed}
@@ -24,54 +25,48 @@ half-is w p q = placed 1 (w - 1) 32 (lit< tt) (omega arith) ∙ one-mul (2 ^ (w 
 pub half-some : (w : ℕ) (s : Shifted) → InWidth w s → 0 < half w
 half-some w s g = subst (λ (x : ℕ). 0 < x) (sym (half-is w (g .some) (g .most))) (pow-pos (w - 1))
 
--- what stays in the width, as the definitions have it
-pub narrow : (w : ℕ) (s : Shifted) → InWidth w s → Narrow w (shiftedOf s)
-narrow w s g = record { value = g .value; m = g .m }
+-- one place in a direction stays in the width, and so in 32 bits
+module _ (left : Bool) (w : ℕ) (k : ShiftKind) (s : Shifted) (g : InWidth w s) where
+  stays : Narrow w (once left w k (shiftedOf s))
+  stays = once-narrow w (g .some) left k (shiftedOf s) (record { value = g .value; m = g .m })
 
-pub in-width : (w : ℕ) (s r : Shifted) (t : Flags.Shifted) → InWidth w s → shiftedOf r ≡ t → Narrow w t → InWidth w r
-in-width w s r t g e n =
-    let m : Narrow w (shiftedOf r) = subst (Narrow w) (sym e) n in
-    record { some = g .some; most = g .most; value = m .value; m = m .m }
+  pub once-in-width : (r : Shifted) → shiftedOf r ≡ once left w k (shiftedOf s) → InWidth w r
+  once-in-width r e =
+      let n : Narrow w (shiftedOf r) = subst (Narrow w) (sym e) stays in
+      record { some = g .some; most = g .most; value = n .value; m = n .m }
+
+  once-fits : (r : Flags.Shifted) → r ≡ once left w k (shiftedOf s) → r .value < 4294967296
+  once-fits r e = omega (arith, ap (λ (t : Flags.Shifted). t .value) e, stays .value, pow-mono (g .most))
 
 module _ (w : ℕ) (k : ShiftKind) (s : Shifted) (g : InWidth w s) where
-  left-narrow : Narrow w (leftOnce w k (shiftedOf s))
-  left-narrow = left-once-narrow w (g .some) k (shiftedOf s) (narrow w s g)
-
-  right-narrow : Narrow w (rightOnce w k (shiftedOf s))
-  right-narrow = right-once-narrow w (g .some) k (shiftedOf s) (narrow w s g)
-
-  pub left-in-width : (r : Shifted) → shiftedOf r ≡ leftOnce w k (shiftedOf s) → InWidth w r
-  left-in-width r e = in-width w s r (leftOnce w k (shiftedOf s)) g e left-narrow
-
-  pub right-in-width : (r : Shifted) → shiftedOf r ≡ rightOnce w k (shiftedOf s) → InWidth w r
-  right-in-width r e = in-width w s r (rightOnce w k (shiftedOf s)) g e right-narrow
-
   -- the bit that leaves at the upper end
   pub top-bit : s .value / half w < 2
   unfolding leftOnce
-  top-bit = subst (λ (x : ℕ). s .value / x < 2) (sym (half-is w (g .some) (g .most))) (left-narrow .m)
+  top-bit = subst (λ (x : ℕ). s .value / x < 2) (sym (half-is w (g .some) (g .most))) (stays true w k s g .m)
 
-  module _ (x : ℕ) (e : x ≡ lowerInput k (s .value / half w) (s .m)) where
-    pub left-is : _≡_ {A = Flags.Shifted} (record { value = s .value % half w * 2 + x; m = s .value / half w }) (leftOnce w k (shiftedOf s))
-    unfolding leftOnce
-    left-is =
-        ap (λ (y : ℕ). record { value = s .value % half w * 2 + y; m = s .value / half w }) e
-        ∙ ap (λ (h : ℕ). record { value = s .value % h * 2 + lowerInput k (s .value / h) (s .m); m = s .value / h })
-        (half-is w (g .some) (g .most))
+  pub left-is :
+      (x : ℕ) → x ≡ lowerInput k (s .value / half w) (s .m)
+      → _≡_ {A = Flags.Shifted} (record { value = s .value % half w * 2 + x; m = s .value / half w })
+      (once true w k (shiftedOf s))
+  unfolding leftOnce
+  left-is x e =
+      ap (λ (y : ℕ). record { value = s .value % half w * 2 + y; m = s .value / half w }) e
+      ∙ ap (λ (h : ℕ). record { value = s .value % h * 2 + lowerInput k (s .value / h) (s .m); m = s .value / h })
+      (half-is w (g .some) (g .most))
 
-    pub left-fits : s .value % half w * 2 + x < 4294967296
-    left-fits = omega (arith, ap (λ (t : Flags.Shifted). t .value) left-is, left-narrow .value, pow-mono (g .most))
+  pub left-fits : (x : ℕ) → x ≡ lowerInput k (s .value / half w) (s .m) → s .value % half w * 2 + x < 4294967296
+  left-fits x e = once-fits true w k s g _ (left-is x e)
 
-  module _ (x : ℕ) (e : x ≡ upperInput k (s .value / half w) (s .value % 2) (s .m)) where
-    pub right-is : _≡_ {A = Flags.Shifted} (record { value = x * half w + s .value / 2; m = s .value % 2 }) (rightOnce w k (shiftedOf s))
-    unfolding rightOnce
-    right-is =
-        ap (λ (y : ℕ). record { value = y * half w + s .value / 2; m = s .value % 2 }) e
-        ∙ ap (λ (h : ℕ). record {
-          value = upperInput k (s .value / h) (s .value % 2)
-              (s .m) * h + s .value / 2;
-          m = s .value % 2;
-        }) (half-is w (g .some) (g .most))
+  pub right-is :
+      (x : ℕ) → x ≡ upperInput k (s .value / half w) (s .value % 2) (s .m)
+      → _≡_ {A = Flags.Shifted} (record { value = x * half w + s .value / 2; m = s .value % 2 }) (once false w k (shiftedOf s))
+  unfolding rightOnce
+  right-is x e =
+      ap (λ (y : ℕ). record { value = y * half w + s .value / 2; m = s .value % 2 }) e
+      ∙ ap (λ (h : ℕ). record {
+        value = upperInput k (s .value / h) (s .value % 2) (s .m) * h + s .value / 2;
+        m = s .value % 2;
+      }) (half-is w (g .some) (g .most))
 
-    pub right-fits : x * half w + s .value / 2 < 4294967296
-    right-fits = omega (arith, ap (λ (t : Flags.Shifted). t .value) right-is, right-narrow .value, pow-mono (g .most))
+  pub right-fits : (x : ℕ) → x ≡ upperInput k (s .value / half w) (s .value % 2) (s .m) → x * half w + s .value / 2 < 4294967296
+  right-fits x e = once-fits false w k s g _ (right-is x e)

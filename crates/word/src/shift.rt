@@ -1,7 +1,7 @@
 // Shifts of a word and of a double word by single places, in one way for both widths.
 ghost use mathlib.Core.Path.{_≡_};
 ghost use Prim.Native.Nat.{_<_};
-ghost use Rattle.isa.specs.Flags.{lowerInput, upperInput, leftOnce, rightOnce, leftBy, rightBy, shiftBy};
+ghost use Rattle.isa.specs.Flags.{lowerInput, upperInput, once, placesBy, shiftBy};
 ghost use Rattle.word.specs.Results.{shiftedOf, InWidth};
 use isa::instruction::ShiftKind;
 
@@ -35,56 +35,37 @@ fn upper_input(k: ShiftKind, top: u16, low: u16, m: u16) -> u16
     }
 }
 
-// One place to the left in w bits.
-fn left_once(w: u32, k: ShiftKind, s: Shifted) -> Shifted
+// One place in w bits: to the left the top bit leaves, to the right the lowest.
+fn once(left: bool, w: u32, k: ShiftKind, s: Shifted) -> Shifted
     requires { ⌜ InWidth w s ⌝ }
-    ensures { λ r. ⌜ shiftedOf r ≡ leftOnce w k (shiftedOf s) ⌝ }
+    ensures { λ r. ⌜ shiftedOf r ≡ once left w k (shiftedOf s) ⌝ }
 {
     let half = 1u32 << (w - 1);
     let top = (s.value / half) as u16;
-    let input = lower_input(k, top, s.m);
-    Shifted {
-        value: s.value % half * 2 + input as u32,
-        m: top,
+    if left {
+        let lower = lower_input(k, top, s.m);
+        return Shifted {
+            value: s.value % half * 2 + lower as u32,
+            m: top,
+        };
     }
-}
-
-// One place to the right in w bits.
-fn right_once(w: u32, k: ShiftKind, s: Shifted) -> Shifted
-    requires { ⌜ InWidth w s ⌝ }
-    ensures { λ r. ⌜ shiftedOf r ≡ rightOnce w k (shiftedOf s) ⌝ }
-{
-    let half = 1u32 << (w - 1);
-    let top = (s.value / half) as u16;
     let low = (s.value % 2) as u16;
-    let input = upper_input(k, top, low, s.m);
+    let upper = upper_input(k, top, low, s.m);
     Shifted {
-        value: input as u32 * half + s.value / 2,
+        value: upper as u32 * half + s.value / 2,
         m: low,
     }
 }
 
-fn left_by(w: u32, k: ShiftKind, start: Shifted, n: u32) -> Shifted
+// n places in one direction.
+fn places_by(left: bool, w: u32, k: ShiftKind, start: Shifted, n: u32) -> Shifted
     requires { ⌜ InWidth w start ⌝ }
-    ensures { λ r. ⌜ shiftedOf r ≡ leftBy w k n (shiftedOf start) ⌝ }
+    ensures { λ r. ⌜ shiftedOf r ≡ placesBy left w k n (shiftedOf start) ⌝ }
 {
     let mut s = start;
     let mut i = 0;
     while i < n {
-        s = left_once(w, k, s);
-        i += 1;
-    }
-    s
-}
-
-fn right_by(w: u32, k: ShiftKind, start: Shifted, n: u32) -> Shifted
-    requires { ⌜ InWidth w start ⌝ }
-    ensures { λ r. ⌜ shiftedOf r ≡ rightBy w k n (shiftedOf start) ⌝ }
-{
-    let mut s = start;
-    let mut i = 0;
-    while i < n {
-        s = right_once(w, k, s);
+        s = once(left, w, k, s);
         i += 1;
     }
     s
@@ -96,9 +77,9 @@ fn shift_by(w: u32, k: ShiftKind, n: i16, s: Shifted) -> Shifted
     ensures { λ r. ⌜ shiftedOf r ≡ shiftBy w k n (shiftedOf s) ⌝ }
 {
     if 0 <= n {
-        return left_by(w, k, s, n as u32);
+        return places_by(true, w, k, s, n as u32);
     }
-    right_by(w, k, s, (0 - n as i32) as u32)
+    places_by(false, w, k, s, (0 - n as i32) as u32)
 }
 
 // A word by the count n, left when positive.
@@ -124,7 +105,7 @@ pub fn shift32(k: ShiftKind, n: i16, v: u32, m: u16) -> Shifted
     requires { ⌜ m < 2 ⌝ }
     ensures value { λ r. ⌜ r .value ≡ shiftBy 32 k n (record { value = v; m = m }) .value ⌝ }
     ensures m { λ r. ⌜ r .m ≡ shiftBy 32 k n (record { value = v; m = m }) .m ⌝ }
-    ensures width { λ r. ⌜ r .m < 2 ⌝ }
+    ensures width { λ r. ⌜ (r .value < 4294967296) × (r .m < 2) ⌝ }
 {
     shift_by(32, k, n, Shifted { value: v, m: m })
 }

@@ -2,12 +2,8 @@
 -- Assumes nothing.
 use borrow.Author.Needs.{needs}
 use native.Mathlib.Omega.{arith}
-use mathlib.Core.Path.{ap}
 use lib.Dec.{lit<, lit≤}
-use Rattle.isa.specs.Flags as Flags
-use Rattle.word.specs.declared.shift.Shifted.{Shifted}
-use Rattle.word.specs.Results.{InWidth}
-use Rattle.word.proofs.Counts.{shifted-is, shifted-width}
+use Rattle.word.proofs.Counts.{shifted-gives}
 use Rattle.word.proofs.shift.shift16.Statement.{statement}
 use Rattle.word.proofs.shift.shift16.Tie as tie
 
@@ -17,13 +13,7 @@ shift-by-requires c κs = search needs
 returns : tie.Need-returns
 returns c =
     let start = c .before in
-    let g : InWidth 16
-    (record { value = start .args .v; m = start .args .m }) = record { some = lit< tt; most = lit≤ tt; value = omega arith; m = start .pre } in
-    let e = shifted-is 16 (start .args .k) (start .args .n) (start .fits .n)
-    (record { value = start .args .v; m = start .args .m }) (c .shift-by .result) g (c .shift-by .ensures) in
-    let s = shifted-width 16 (start .args .k) (start .args .n) (start .fits .n)
-    (record { value = start .args .v; m = start .args .m }) (c .shift-by .result) g (c .shift-by .ensures) in
-    (ap (λ (t : Flags.Shifted). t .value) e, (ap (λ (t : Flags.Shifted). t .m) e, (s .value, s .m)))
+    shifted-gives 16 _ _ (start .fits .n) (lit< tt) (lit≤ tt) (omega arith) (start .pre) _ (c .shift-by .ensures)
 
 pub shift16-spec : {M : Type 1} → statement M
 shift16-spec = tie.close (tie.spec shift-by-requires returns)
