@@ -15,7 +15,7 @@ use Rattle.isa.specs.Machine.{flagOf}
 use Rattle.isa.specs.Flags.{signedOf, bitsOf, tooLarge, quotient, remainder, divisionFails}
 use Rattle.word.specs.declared.quotient.Division.the-variants.{Fails, Gives}
 use Rattle.word.specs.Results.{divisionOf}
-use Rattle.word.proofs.Numbers.{negated-size, word-size, double-size, result-fits, result-read}
+use Rattle.word.proofs.Numbers.{negated-size, word-size, double-size, result-fits, result-of}
 
 pub quotient-size : (n d : ℤ) → mag (quotZ n d) ≤ suc (mag n)
 quotient-size (pos a) (pos b) = omega (arith, div-le-self a b)
@@ -91,16 +91,10 @@ module _ (n d : ℕ) (x y : ℤ) (hn : n < 4294967296) (hd : d < 65536) (ex : x 
   divides p = (divisor-some d y ey p hd, quotient-fits)
 
   pub quotient-read : toZ w64 (ofZ w64 (quotZ (toZ w64 (ofZ w64 x)) (toZ w64 (ofZ w64 y)))) ≡ quotient n d
-  quotient-read =
-      result-read quotZ x y (omega (arith, mx)) (omega (arith, my)) quotient-small
-      ∙ ap (λ (z : ℤ). quotZ z y) ex
-      ∙ ap (quotZ (signedOf 32 n)) ey
+  quotient-read = result-of quotZ x y (omega (arith, mx)) (omega (arith, my)) quotient-small ex ey
 
   pub remainder-read : toZ w64 (ofZ w64 (remZ (toZ w64 (ofZ w64 x)) (toZ w64 (ofZ w64 y)))) ≡ remainder n d
-  remainder-read =
-      result-read remZ x y (omega (arith, mx)) (omega (arith, my)) remainder-small
-      ∙ ap (λ (z : ℤ). remZ z y) ex
-      ∙ ap (remZ (signedOf 32 n)) ey
+  remainder-read = result-of remZ x y (omega (arith, mx)) (omega (arith, my)) remainder-small ex ey
 
 pub remainder-size : (n d : ℕ) (z : ℤ) → n < 4294967296 → z ≡ remainder n d → mag z < 2 ^ 32
 remainder-size n d z hn e =

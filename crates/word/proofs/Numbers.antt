@@ -12,6 +12,7 @@ use borrow.Author.Tests.{lt-ltb, le-ltb}
 use mir.Syntax.{w64}
 use mir.Val.{Fits, SFits, toZ, ofZ}
 use mir.ValLaws.{toZ-pos, toZ-ofZ}
+use Rattle.isa.specs.Machine.{flagOf}
 use Rattle.isa.specs.Flags.{signedOf, bitsOf, tooLarge, product}
 use Rattle.isa.proofs.Signed.{signed-range}
 
@@ -27,6 +28,9 @@ module _ (f : ℤ → ℤ → ℤ) (x y : ℤ) (p : mag x < 2 ^ 63) (q : mag y <
 
   pub result-read : toZ w64 (ofZ w64 (f (toZ w64 (ofZ w64 x)) (toZ w64 (ofZ w64 y)))) ≡ f x y
   result-read = toZ-ofZ w64 _ result-fits ∙ operands
+
+  pub result-of : {u v : ℤ} → x ≡ u → y ≡ v → toZ w64 (ofZ w64 (f (toZ w64 (ofZ w64 x)) (toZ w64 (ofZ w64 y)))) ≡ f u v
+  result-of {u} e g = result-read ∙ ap (λ (z : ℤ). f z y) e ∙ ap (f u) g
 
 -- ---- signed meanings
 
@@ -82,9 +86,16 @@ product-size (negsuc a) (negsuc b) p q = halves (suc a) (suc b) (omega arith) (o
 -- ---- the tests of a signed range
 
 -- a comparison of two numbers that are held in 64 bits
-pub test-read : (x y : ℤ) (t : Bool) → SFits w64 x → SFits w64 y → ltZ (toZ w64 (ofZ w64 x)) (toZ w64 (ofZ w64 y)) ≡ t → ltZ x y ≡ t
+pub test-read : (x y : ℤ) (t : Bool) → SFits w64 x → SFits w64 y
+    → ltZ (toZ w64 (ofZ w64 x)) (toZ w64 (ofZ w64 y)) ≡ t → ltZ x y ≡ t
 test-read x y t f g e =
     subst (λ (z : ℤ). ltZ x z ≡ t) (toZ-ofZ w64 y g) (subst (λ (z : ℤ). ltZ z (toZ w64 (ofZ w64 y)) ≡ t) (toZ-ofZ w64 x f) e)
+
+-- the flag of a number that is not below a range, by the test of its upper end
+pub not-below : (z low high : ℤ) (t : Bool) → SFits w64 z → SFits w64 low → SFits w64 high
+    → ltZ (toZ w64 (ofZ w64 z)) (toZ w64 (ofZ w64 low)) ≡ false → ltZ (toZ w64 (ofZ w64 high)) (toZ w64 (ofZ w64 z)) ≡ t
+    → flagOf t ≡ flagOf (ltZ z low || ltZ high z)
+not-below z low high t f g h p q = simp (test-read z low false f g p, test-read high z t h f q)
 
 or-false : (t : Bool) → (t || false) ≡ t
 or-false true = refl
@@ -129,7 +140,8 @@ module _ (z : ℤ) (l : mag z < 4294967296) where
   raised-read : toZ w64 (ofZ w64 (toZ w64 (ofZ w64 z) +ℤ pos 4294967296)) ≡ pos (raised z)
   raised-read = result-read _+ℤ_ z (pos 4294967296) (omega arith) (lit< tt) raised-held ∙ raised-is z l
 
-  pub raised-casts : T (nonNeg (toZ w64 (ofZ w64 (toZ w64 (ofZ w64 z) +ℤ pos 4294967296)))) × Fits w64 (natAbs (toZ w64 (ofZ w64 (toZ w64 (ofZ w64 z) +ℤ pos 4294967296))))
+  pub raised-casts : T (nonNeg (toZ w64 (ofZ w64 (toZ w64 (ofZ w64 z) +ℤ pos 4294967296))))
+      × Fits w64 (natAbs (toZ w64 (ofZ w64 (toZ w64 (ofZ w64 z) +ℤ pos 4294967296))))
   raised-casts =
       subst (λ (x : ℤ). T (nonNeg x) × Fits w64 (natAbs x)) (sym raised-read)
       (tt, record { fits = omega (arith, raised-small z l) })
@@ -161,10 +173,7 @@ module _ (a b : ℕ) (x y : ℤ) (ha : a < 65536) (hb : b < 65536) (ex : x ≡ s
   product-fits = result-fits _*ℤ_ x y (omega (arith, mx)) (omega (arith, my)) product-small
 
   pub product-read : toZ w64 (ofZ w64 (toZ w64 (ofZ w64 x) *ℤ toZ w64 (ofZ w64 y))) ≡ product a b
-  product-read =
-      result-read _*ℤ_ x y (omega (arith, mx)) (omega (arith, my)) product-small
-      ∙ ap (λ (z : ℤ). z *ℤ y) ex
-      ∙ ap (λ (z : ℤ). signedOf 16 a *ℤ z) ey
+  product-read = result-of _*ℤ_ x y (omega (arith, mx)) (omega (arith, my)) product-small ex ey
 
   sum-small : mag (x +ℤ y) < 2 ^ 17
   sum-small = omega (arith, sum-size x y, mx, my)

@@ -11,20 +11,23 @@ pub enum Division {
     Gives(u16, u16),
 }
 
-// Toward zero.
-fn signed_quotient(n: u32, d: u16) -> i64
-    requires { ⌜ 0 < d ⌝ }
-    ensures { λ r. ⌜ r ≡ quotient n d ⌝ }
-{
-    whole::signed_double(n) / whole::signed(d)
+// As whole numbers: the quotient toward zero, the remainder with the dividend's sign.
+struct Whole {
+    quotient: i64,
+    remainder: i64,
 }
 
-// With the dividend's sign.
-fn signed_remainder(n: u32, d: u16) -> i64
+fn signed_division(n: u32, d: u16) -> Whole
     requires { ⌜ 0 < d ⌝ }
-    ensures { λ r. ⌜ r ≡ remainder n d ⌝ }
+    ensures quotient { λ r. ⌜ r .quotient ≡ quotient n d ⌝ }
+    ensures remainder { λ r. ⌜ r .remainder ≡ remainder n d ⌝ }
 {
-    whole::signed_double(n) % whole::signed(d)
+    let x = whole::signed_double(n);
+    let y = whole::signed(d);
+    Whole {
+        quotient: x / y,
+        remainder: x % y,
+    }
 }
 
 pub fn divide(n: u32, d: u16) -> Division
@@ -33,9 +36,10 @@ pub fn divide(n: u32, d: u16) -> Division
     if d == 0 {
         return Division::Fails;
     }
-    let q = signed_quotient(n, d);
+    let r = signed_division(n, d);
+    let q = r.quotient;
     if whole::beyond(q) == 1 {
         return Division::Fails;
     }
-    Division::Gives(whole::word(q), whole::word(signed_remainder(n, d)))
+    Division::Gives(whole::word(q), whole::word(r.remainder))
 }

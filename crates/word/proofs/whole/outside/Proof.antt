@@ -1,7 +1,7 @@
 -- Each return by its tests.
 -- Assumes nothing.
 use mathlib.Core.Bool.{true, false}
-use Rattle.word.proofs.Numbers.{test-read}
+use Rattle.word.proofs.Numbers.{test-read, not-below}
 use Rattle.word.proofs.whole.outside.Statement.{statement}
 use Rattle.word.proofs.whole.outside.Tie as tie
 
@@ -12,23 +12,13 @@ returns c =
 
 returns-2 : tie.Need-returns-2
 returns-2 c =
-    let start = c .before .before in
-    simp (
-      test-read (start .args .z) (start .args .low) false (start .fits .z) (start .fits .low)
-          (c .before .if1 .left),
-      test-read (start .args .high) (start .args .z) true (start .fits .high) (start .fits .z)
-          (c .if2 .taken),
-    )
+    let f = c .before .before .fits in
+    not-below _ _ _ true (f .z) (f .low) (f .high) (c .before .if1 .left) (c .if2 .taken)
 
 returns-3 : tie.Need-returns-3
 returns-3 c =
-    let start = c .before .before in
-    simp (
-      test-read (start .args .z) (start .args .low) false (start .fits .z) (start .fits .low)
-          (c .before .if1 .left),
-      test-read (start .args .high) (start .args .z) false (start .fits .high) (start .fits .z)
-          (c .if2 .left),
-    )
+    let f = c .before .before .fits in
+    not-below _ _ _ false (f .z) (f .low) (f .high) (c .before .if1 .left) (c .if2 .left)
 
 pub outside-spec : {M : Type 1} → statement M
 outside-spec = tie.close (tie.spec returns returns-2 returns-3)
