@@ -1,11 +1,12 @@
 -- Two's complement as the code computes it: `toZ w n` are the bits n read at the width w, `ofZ w z` the bits of z there.
 -- Assumes nothing.
-use Prim.Native.Nat.{ℕ, suc, _+_, _-_, _*_, _^_, _<_, _≤_, zero-le}
-use native.Mathlib.Nat.{mod-eq-of-lt}
+use Prim.Native.Nat.{ℕ, suc, _+_, _-_, _*_, _%_, _^_, _<_, _≤_, zero-le}
+use native.Mathlib.Nat.{mod-lt, mod-eq-of-lt}
 use native.Mathlib.Decide.{decLt}
 use native.Mathlib.Omega.{arith}
 use mathlib.Core.Path.{_≡_, sym, ap, _∙_, subst}
 use mathlib.Core.Bool.{Bool, true, false, cond}
+use lib.Arith.{digits-mod}
 use lib.Dec.{T, ltb}
 use lib.IntN.{ℤ, pos, negsuc, natAbs, subℕ, _+ℤ_, _-ℤ_}
 use lib.Signed.{leZ, nonNeg}
@@ -19,11 +20,15 @@ use Rattle.isa.proofs.Signed.{bits-below}
 use Rattle.isa.proofs.Tests.{no-both}
 
 -- A field n whose sign bit weighs half = m + 1, made half larger within the field: q. Half less is what n means.
-module _ (m n q : ℕ) (b : n < 2 * suc m) (f : q < 32768) (low : n < suc m → q ≡ n + suc m) (high : suc m ≤ n → q + suc m ≡ n) where
-  pub centred : toZ w16 q -ℤ pos (suc m) ≡ cond (ltb n (suc m)) (pos n) (negsuc (2 * suc m - suc n))
+module _ (m n q : ℕ) (b : n < 2 * suc m) (f : q < 32768)
+    (low : n < suc m → q ≡ n + suc m) (high : suc m ≤ n → q + suc m ≡ n) where
+  abbrev meaning : Bool → ℤ
+  meaning t = cond t (pos n) (negsuc (2 * suc m - suc n))
+
+  centred : toZ w16 q -ℤ pos (suc m) ≡ meaning (ltb n (suc m))
   centred = ap (λ (z : ℤ). z -ℤ pos (suc m)) (toZ-pos w16 q f) ∙ go (decLt n (suc m))
     where
-      go : Dec (n < suc m) → subℕ q (suc m) ≡ cond (ltb n (suc m)) (pos n) (negsuc (2 * suc m - suc n))
+      go : Dec (n < suc m) → subℕ q (suc m) ≡ meaning (ltb n (suc m))
       go (yes l) =
           let e : q ≡ n + suc m = low l in
           let k : suc m ≤ q = omega arith in
@@ -36,12 +41,43 @@ module _ (m n q : ℕ) (b : n < 2 * suc m) (f : q < 32768) (low : n < suc m → 
           let d : suc m - suc q ≡ 2 * suc m - suc n = omega arith in
           simp (le-ltb n (suc m) h, lt-ltb q (suc m) k) (ap negsuc d)
 
-  pub centred-fits : suc m ≤ 32768 → SFits w16 (toZ w16 q -ℤ pos (suc m))
+  centred-fits : suc m ≤ 32768 → SFits w16 (toZ w16 q -ℤ pos (suc m))
   centred-fits h = subst (SFits w16) (sym centred) (go (decLt n (suc m)))
     where
-      go : Dec (n < suc m) → SFits w16 (cond (ltb n (suc m)) (pos n) (negsuc (2 * suc m - suc n)))
-      go (yes l) = subst (λ (t : Bool). SFits w16 (cond t (pos n) (negsuc (2 * suc m - suc n)))) (sym (lt-ltb n (suc m) l)) (record { sfits = omega arith })
-      go (no l) = subst (λ (t : Bool). SFits w16 (cond t (pos n) (negsuc (2 * suc m - suc n)))) (sym (le-ltb n (suc m) (omega arith))) (record { sfits = omega arith })
+      go : Dec (n < suc m) → SFits w16 (meaning (ltb n (suc m)))
+      go (yes l) = subst (λ (t : Bool). SFits w16 (meaning t)) (sym (lt-ltb n (suc m) l)) (record { sfits = omega arith })
+      go (no l) =
+          let e = le-ltb n (suc m) (omega arith) in
+          subst (λ (t : Bool). SFits w16 (meaning t)) (sym e) (record { sfits = omega arith })
+
+-- .. where n are the low bits of a word w
+module _ (m w : ℕ) (s : 2 * suc m ≤ 32768) where
+  abbrev field : ℕ
+  field = w % (2 * suc m)
+
+  abbrev moved : ℕ
+  moved = (field + suc m) % (2 * suc m)
+
+  below : (n : ℕ) → n % (2 * suc m) < 2 * suc m
+  below n = mod-lt n (omega arith)
+
+  low : field < suc m → moved ≡ field + suc m
+  low l = mod-eq-of-lt (omega arith)
+
+  high : suc m ≤ field → moved + suc m ≡ field
+  high l =
+      let r : field - suc m < 2 * suc m = omega (arith, below w) in
+      let e : field + suc m ≡ 1 * (2 * suc m) + (field - suc m) = omega arith in
+      let q : moved ≡ field - suc m = ap (λ (x : ℕ). x % (2 * suc m)) e ∙ digits-mod 1 r in
+      omega (arith, q, l)
+
+  pub field-fits : SFits w16 (toZ w16 moved -ℤ pos (suc m))
+  field-fits = centred-fits m field moved (below w) (omega (arith, below (field + suc m))) low high (omega arith)
+
+  pub field-read :
+      toZ w16 (ofZ w16 (toZ w16 moved -ℤ pos (suc m)))
+      ≡ cond (ltb field (suc m)) (pos field) (negsuc (2 * suc m - suc field))
+  field-read = toZ-ofZ w16 _ field-fits ∙ centred m field moved (below w) (omega (arith, below (field + suc m))) low high
 
 -- a word n, computed at a wider width w
 module _ (w : Width) (n : ℕ) (h : n < 2 ^ hbits w) (b : n < 65536) where

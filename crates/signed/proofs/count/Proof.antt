@@ -1,12 +1,8 @@
 -- The low 6 bits, made half larger and half less.
 -- Assumes nothing.
-use Prim.Native.Nat.{_+_, _%_}
-use native.Mathlib.Omega.{arith}
-use mathlib.Core.Path.{_∙_}
+use lib.Dec.{lit≤}
 use borrow.Author.Needs.{needs}
-use mir.Syntax.{w16}
-use mir.ValLaws.{toZ-ofZ}
-use Rattle.signed.proofs.Laws.{centred, centred-fits}
+use Rattle.signed.proofs.Laws.{field-fits, field-read}
 use Rattle.signed.proofs.count.Statement.{statement}
 use Rattle.signed.proofs.count.Tie as tie
 
@@ -17,14 +13,10 @@ cast-result : tie.Need-cast-result
 cast-result c = search needs
 
 sub-result : tie.Need-sub-result
-sub-result c =
-    let n = c .args .w % 64 in
-    centred-fits 31 n ((n + 32) % 64) (omega arith) (omega arith) (λ l. omega arith) (λ l. omega arith) (omega arith)
+sub-result c = field-fits 31 (c .args .w) (lit≤ tt)
 
 returns : tie.Need-returns
-returns c =
-    let n = c .args .w % 64 in
-    toZ-ofZ w16 _ (sub-result c) ∙ centred 31 n ((n + 32) % 64) (omega arith) (omega arith) (λ l. omega arith) (λ l. omega arith)
+returns c = field-read 31 (c .args .w) (lit≤ tt)
 
 pub count-spec : {M : Type 1} → statement M
 count-spec = tie.close (tie.spec add-result cast-result sub-result returns)
