@@ -11,6 +11,9 @@ use lib.ListN.{getD, set}
 use lib.Seq.{set-getD, set-set, set-comm, getD-set-other}
 use lib.Dec.{leb}
 use borrow.Author.Tests.{eq-eqb}
+use mir.Syntax.{w16}
+use mir.Val.{SFits, toZ, ofZ}
+use mir.ValLaws.{toZ-ofZ}
 use Rattle.isa.proofs.Tests.{no-both}
 use lib.Dec as Dec
 use Rattle.isa.specs.Machine.{reg, withReg, withFlag, next, number, flagK, withBit}
@@ -225,3 +228,9 @@ register-completion StoreByte f i ws h = absurd h
 register-completion Mix3 f i ws h = refl
 register-completion (Multiply s d) f i ws h = refl
 register-completion (Divide s) f i ws h = refl
+
+-- an instruction's number that came through 16 bits is itself
+pub through-word :
+    (u : ℤ → User) (z : ℤ) → SFits w16 z → {v : User} → v ≡ u z → (f : File) (at : ℕ)
+    → registerCompletion (u (toZ w16 (ofZ w16 z))) f at ≡ registerCompletion v f at
+through-word u z h g f at = ap (λ (v : User). registerCompletion v f at) (ap u (toZ-ofZ w16 z h) ∙ sym g)

@@ -1,14 +1,9 @@
 -- The unprivileged instructions that make no access, one by one.
 -- Assumes nothing.
-use mathlib.Core.Path.{ap}
-use lib.IntN.{ℤ}
-use mir.Syntax.{w16}
-use mir.Val.{SFits}
-use mir.ValLaws.{toZ-ofZ}
+use mathlib.Core.Path.{_∙_}
 use borrow.Author.Needs.{needs}
 use Rattle.isa.specs.declared.instruction.User.the-variants.{Jump, Shift, SetArgument, AddArgument}
-use Rattle.execute.specs.Completion.{registerCompletion}
-use Rattle.execute.specs.Effects.{fileOf}
+use Rattle.execute.proofs.Laws.{through-word}
 use Rattle.execute.proofs.complete.complete.Statement.{statement}
 use Rattle.execute.proofs.complete.complete.Tie as tie
 
@@ -131,12 +126,9 @@ returns c = simp (c .none .ensures, c .before .enum-told .given .1)
 
 returns-2 : tie.Need-returns-2
 returns-2 c =
-    let a = c .before .before .before .before .before .before .args in
-    let g = fileOf (a .f .now) in
-    let v = c .before .before .before .before .u .given .0 in
-    let d = v .1 .0 in
-    let h : SFits w16 d = search needs in
-    simp (c .jumped .ensures, c .before .wrapping-add-u16 .ensures, c .before .before .word-of .ensures, c .before .before .before .before .u .given .1) (ap (λ (z : ℤ). registerCompletion (Jump (v .0) z) g (a .at)) (toZ-ofZ w16 d h))
+    let u = c .before .before .before .before .u .given in
+    simp (c .jumped .ensures, c .before .wrapping-add-u16 .ensures, c .before .before .word-of .ensures)
+    (through-word (Jump (u .0 .0)) (u .0 .1 .0) (search needs) (u .1) _ _)
 
 returns-3 : tie.Need-returns-3
 returns-3 c = simp (c .skipped .ensures, c .before .before .u2 .given .1)
@@ -152,30 +144,18 @@ returns-6 c = simp (c .none2 .ensures, c .before .enum-told2 .given .1)
 
 returns-7 : tie.Need-returns-7
 returns-7 c =
-    let a = c .before .before .before .before .args in
-    let g = fileOf (a .f .now) in
-    let v = c .before .before .u5 .given .0 in
-    let d = v .1 .1 .0 in
-    let h : SFits w16 d = search needs in
-    simp (c .shifted .ensures, c .before .before .u5 .given .1) (ap (λ (z : ℤ). registerCompletion (Shift (v .0) (v .1 .0) z) g (a .at)) (toZ-ofZ w16 d h))
+    let u = c .before .before .u5 .given in
+    c .shifted .ensures ∙ through-word (Shift (u .0 .0) (u .0 .1 .0)) (u .0 .1 .1 .0) (search needs) (u .1) _ _
 
 returns-8 : tie.Need-returns-8
 returns-8 c =
-    let a = c .before .before .before .before .args in
-    let g = fileOf (a .f .now) in
-    let v = c .before .before .u6 .given .0 in
-    let d = v .1 .0 in
-    let h : SFits w16 d = search needs in
-    simp (c .set-argument .ensures, c .before .before .u6 .given .1) (ap (λ (z : ℤ). registerCompletion (SetArgument (v .0) z) g (a .at)) (toZ-ofZ w16 d h))
+    let u = c .before .before .u6 .given in
+    c .set-argument .ensures ∙ through-word (SetArgument (u .0 .0)) (u .0 .1 .0) (search needs) (u .1) _ _
 
 returns-9 : tie.Need-returns-9
 returns-9 c =
-    let a = c .before .before .before .before .args in
-    let g = fileOf (a .f .now) in
-    let v = c .before .before .u7 .given .0 in
-    let d = v .1 .0 in
-    let h : SFits w16 d = search needs in
-    simp (c .add-argument .ensures, c .before .before .u7 .given .1) (ap (λ (z : ℤ). registerCompletion (AddArgument (v .0) z) g (a .at)) (toZ-ofZ w16 d h))
+    let u = c .before .before .u7 .given in
+    c .add-argument .ensures ∙ through-word (AddArgument (u .0 .0)) (u .0 .1 .0) (search needs) (u .1) _ _
 
 returns-10 : tie.Need-returns-10
 returns-10 c = simp (c .bit-done .ensures, c .before .before .u8 .given .1)
