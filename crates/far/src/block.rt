@@ -1,17 +1,16 @@
 // Register blocks: SRB and LRB.
 ghost use mathlib.Core.Path.{_≡_};
-ghost use mathlib.Core.List.{List, []};
+ghost use mathlib.Core.List.{List};
 ghost use Prim.Native.Nat.{ℕ, _<_};
 ghost use lib.ListN.{length};
-ghost use Rattle.isa.specs.Machine.{pack, reg};
-ghost use Rattle.isa.specs.Pages.{rightsOf};
-ghost use Rattle.isa.specs.Step.{withRegs, blockOrder, blockFrom, blockWords, putBlock, blockTested, blockStored, blockLoaded};
+ghost use Rattle.isa.specs.Machine.{pack};
+ghost use Rattle.isa.specs.Pages.{faultOf};
+ghost use Rattle.isa.specs.Step.{faulted, withRegs, blockOrder, blockWords, putBlock, blockTested, blockStored, blockLoaded};
 ghost use Rattle.isa.specs.declared.access.Kind.the-variants.{Read, Write};
-ghost use Rattle.isa.specs.declared.machine.Register.the-variants.{X};
 ghost use Rattle.isa.specs.declared.machine.State.{State};
-ghost use Rattle.paging.specs.Outcome.{Outcome};
-ghost use Rattle.blocks.specs.Blocks.{blockPlaces, listOf};
-ghost use Rattle.far.specs.Settled.{turnOf};
+ghost use Rattle.blocks.specs.Blocks.{listOf};
+ghost use Rattle.far.specs.Blocks.{BlockTest};
+ghost use Rattle.far.specs.Settled.{leaving, turnOf};
 use crate::settle::Settled;
 use blocks::block::Block;
 use blocks::block::BlockWords;
@@ -20,6 +19,7 @@ use blocks::words::read_block;
 use blocks::words::store_block;
 use handler::faulted;
 use isa::access::Kind;
+use isa::access::Translation;
 use isa::machine::Core;
 use isa::machine::Register;
 use levels::file_at;
@@ -29,12 +29,15 @@ use paging::rights::rights;
 use transfers::registers::put_other;
 use transfers::registers::reloaded;
 
-// The accesses of the block from the address in X on.
-fn tested(c: Core, words: usize, tables: &mut [u16], k: Kind) -> Block
+// The running level's registers are put back, and the accesses of the block from the address in X on are tested.
+fn tested(level: u16, c: Core, regs: &mut [u16], words: usize, tables: &mut [u16], k: Kind) -> Block
+    requires { ⌜ level < 16 ⌝ }
+    requires { ⌜ length (now regs) ≡ 128 ⌝ }
     requires { ⌜ length (now tables) ≡ 256 ⌝ }
-    ensures { λ b. ⌜ Outcome (now (tables .entry)) words (rightsOf c) [] (blockFrom k (reg (c .file) X) blockOrder) (blockPlaces b) (b .fault) (now (tables .exit)) ⌝ }
+    ensures { λ b. ⌜ BlockTest level c k (now (regs .entry)) words (now (tables .entry)) b (now (regs .exit)) (now (tables .exit)) ⌝ }
 {
     let f = c.file;
+    put_file(regs, level, f);
     let w = c.control;
     let r = rights(f.get(Register::Sts), c.pcr, w.paging);
     test_block(tables, words, r, k, f.get(Register::X))
@@ -73,6 +76,16 @@ fn put_block(level: u16, regs: &mut [u16], l: u16, w: BlockWords)
     put_other(level, regs, l, Register::B, w.b);
 }
 
+// An access of the block failed: the fault is the running level's.
+fn block_failed(x: Translation, c: Core) -> Settled
+    ensures { λ r. ⌜ r ≡ leaving (faulted x c) (faultOf x) ⌝ }
+{
+    Settled {
+        core: faulted(x, c),
+        gave: fault_of(x),
+    }
+}
+
 // SRB: the registers of a level to memory.
 pub fn block_stored(
     level: u16,
@@ -87,18 +100,13 @@ pub fn block_stored(
     requires { ⌜ length (now tables) ≡ 256 ⌝ }
     ensures { λ r. ⌜ ((p : List ℕ) → length p ≡ 16 → turnOf level r (now (regs .exit)) p (now (mem .exit)) (now (tables .exit)) ≡ blockStored (pack level c (now (regs .entry)) p) l (now (mem .entry)) (blockTested Write (pack level c (now (regs .entry)) p) (now (mem .entry)) (now (tables .entry)))) ⌝ }
 {
-    let b = tested(c, mem.len(), tables, Kind::Write);
+    let b = tested(level, c, regs, mem.len(), tables, Kind::Write);
     let x = b.fault;
     if fault_of(x) == 0 {
-        let f = c.file;
-        put_file(regs, level, f);
         store_block(mem, tables, b, block_words(regs, l));
         return Settled { core: c, gave: 0 };
     }
-    Settled {
-        core: faulted(x, c),
-        gave: fault_of(x),
-    }
+    block_failed(x, c)
 }
 
 // LRB: the registers of a level from memory.
@@ -115,19 +123,14 @@ pub fn block_loaded(
     requires { ⌜ length (now tables) ≡ 256 ⌝ }
     ensures { λ r. ⌜ ((p : List ℕ) → length p ≡ 16 → turnOf level r (now (regs .exit)) p (now (mem .entry)) (now (tables .exit)) ≡ blockLoaded (pack level c (now (regs .entry)) p) l (now (mem .entry)) (blockTested Read (pack level c (now (regs .entry)) p) (now (mem .entry)) (now (tables .entry)))) ⌝ }
 {
-    let b = tested(c, mem.len(), tables, Kind::Read);
+    let b = tested(level, c, regs, mem.len(), tables, Kind::Read);
     let x = b.fault;
     if fault_of(x) == 0 {
-        let f = c.file;
-        put_file(regs, level, f);
         put_block(level, regs, l, read_block(mem, tables, b));
         return Settled {
             core: reloaded(level, c, regs),
             gave: 0,
         };
     }
-    Settled {
-        core: faulted(x, c),
-        gave: fault_of(x),
-    }
+    block_failed(x, c)
 }
