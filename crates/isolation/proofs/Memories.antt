@@ -26,11 +26,24 @@ module _ (t₀ : List ℕ) (a b ρ : ℕ) where
     pub size : length n ≡ length m
     pub same : (k : ℕ) → permittedWriting t₀ a b ρ (k / 1024) ≡ false → getD n k 0 ≡ getD m k 0
 
-  pub kept-refl : (m : List ℕ) → Kept m m
+  kept-refl : (m : List ℕ) → Kept m m
   kept-refl m = record { size = refl; same = λ k f. refl }
 
-  pub kept-trans : (m n o : List ℕ) → Kept m n → Kept n o → Kept m o
+  kept-trans : (m n o : List ℕ) → Kept m n → Kept n o → Kept m o
   kept-trans m n o h l = record { size = l .size ∙ h .size; same = λ k f. l .same k f ∙ h .same k f }
+
+  -- what is left of the memories m and n: they agree, and each is kept
+  pub record EvenMemories (m n m′ n′ : List ℕ) : Type 0 where
+    pub agree : Agree m′ n′
+    pub left : Kept m m′
+    pub right : Kept n n′
+
+  pub even-refl : (m n : List ℕ) → Agree m n → EvenMemories m n m n
+  even-refl m n h = record { agree = h; left = kept-refl m; right = kept-refl n }
+
+  pub even-trans : (m n m′ n′ r q : List ℕ) → EvenMemories m n m′ n′ → EvenMemories m′ n′ r q → EvenMemories m n r q
+  even-trans m n m′ n′ r q h l =
+      record { agree = l .agree; left = kept-trans m m′ r (h .left) (l .left); right = kept-trans n n′ q (h .right) (l .right) }
 
   -- one store of the same word in both
   set-agree : (m n : List ℕ) (p v : ℕ) → Agree m n → Agree (set m p v) (set n p v)
@@ -65,20 +78,16 @@ module _ (t₀ : List ℕ) (a b ρ : ℕ) where
 
   -- what storing the same words in both leaves
   pub record Stored (m n t : List ℕ) (r q : Lent) : Type 0 where
-    pub agree : Agree (r .memory) (q .memory)
-    pub left : Kept m (r .memory)
-    pub right : Kept n (q .memory)
+    pub memories : EvenMemories m n (r .memory) (q .memory)
     pub left-tables : r .tables ≡ t
     pub right-tables : q .tables ≡ t
 
   stored-none : (m n t : List ℕ) → Agree m n → Stored m n t (record { memory = m; tables = t }) (record { memory = n; tables = t })
-  stored-none m n t h = record { agree = h; left = kept-refl m; right = kept-refl n; left-tables = refl; right-tables = refl }
+  stored-none m n t h = record { memories = even-refl m n h; left-tables = refl; right-tables = refl }
 
-  stored-more : (m n m′ n′ t : List ℕ) (r q : Lent) → Kept m m′ → Kept n n′ → Stored m′ n′ t r q → Stored m n t r q
-  stored-more m n m′ n′ t r q k l h = record {
-    agree = h .agree;
-    left = kept-trans m m′ (r .memory) k (h .left);
-    right = kept-trans n n′ (q .memory) l (h .right);
+  stored-more : (m n m′ n′ t : List ℕ) (r q : Lent) → EvenMemories m n m′ n′ → Stored m′ n′ t r q → Stored m n t r q
+  stored-more m n m′ n′ t r q k h = record {
+    memories = even-trans m n m′ n′ (r .memory) (q .memory) k (h .memories);
     left-tables = h .left-tables;
     right-tables = h .right-tables;
   }
@@ -91,8 +100,10 @@ module _ (t₀ : List ℕ) (a b ρ : ℕ) where
   store-all m n t (Store p ∷ xs) ws (also h hs) l =
       let w : ℕ = getD ws 0 0 in
       let vs : List ℕ = drop 1 ws in
-      stored-more m n (set m p w) (set n p w) t (storeAll (set m p w) t xs vs) (storeAll (set n p w) t xs vs) (set-kept m p w h) (set-kept n p w h)
-      (store-all (set m p w) (set n p w) t xs vs hs (set-agree m n p w l))
+      let e = set-agree m n p w l in
+      stored-more m n (set m p w) (set n p w) t (storeAll (set m p w) t xs vs) (storeAll (set n p w) t xs vs)
+      (record { agree = e; left = set-kept m p w h; right = set-kept n p w h })
+      (store-all (set m p w) (set n p w) t xs vs hs e)
   store-all m n t (LoadTable i ∷ xs) ws (also h hs) l = absurd h
   store-all m n t (StoreTable i ∷ xs) ws (also h hs) l = absurd h
   store-all m n t (Protection g ∷ xs) ws (also h hs) l = store-all m n t xs ws hs l

@@ -20,7 +20,7 @@ use Rattle.isa.specs.declared.answer.Reason.{Reason}
 use Rattle.isa.specs.declared.answer.Reason.the-variants.{Stopped, Level, Spent, Interrupt}
 use Rattle.isa.proofs.Marks.{Marked}
 use Rattle.isolation.proofs.Accesses.{Held}
-use Rattle.isolation.proofs.Memories.{Agree, Kept, kept-refl, kept-trans}
+use Rattle.isolation.proofs.Memories.{Agree, EvenMemories, even-refl, even-trans}
 use Rattle.isolation.proofs.Stages.{Local, Even, level-even}
 
 module _ (t₀ : List ℕ) (a b ρ : ℕ) where
@@ -41,40 +41,36 @@ module _ (t₀ : List ℕ) (a b ρ : ℕ) where
     state : r .state ≡ q .state
     gave : r .gave ≡ q .gave
     tables : r .tables ≡ q .tables
-    agree : Agree t₀ a b ρ (r .memory) (q .memory)
-    left : Kept t₀ a b ρ m (r .memory)
-    right : Kept t₀ a b ρ n (q .memory)
+    memories : EvenMemories t₀ a b ρ m n (r .memory) (q .memory)
     marks : Marked (r .tables) t₀
     held : Held t₀ a b ρ (coreOf (r .state))
 
   -- what is left to be done outside the level touches no memory and nothing that confines the level
-  far-even : (s : State) (g : ℕ) (m n m′ n′ t : List ℕ) (far : Far) → Local far → Agree t₀ a b ρ m′ n′ → Kept t₀ a b ρ m m′ → Kept t₀ a b ρ n n′ → Marked t t₀
+  far-even : (s : State) (g : ℕ) (m n m′ n′ t : List ℕ) (far : Far) → Local far → EvenMemories t₀ a b ρ m n m′ n′ → Marked t t₀
       → Held t₀ a b ρ (coreOf s) → EvenTurn m n (farStage s g m′ t far) (farStage s g n′ t far)
   unfolding farStage
-  far-even s g m n m′ n′ t Nothing hf h k l hm hs =
-      record { state = refl; gave = refl; tables = refl; agree = h; left = k; right = l; marks = hm; held = hs }
-  far-even s g m n m′ n′ t (Call w) hf h k l hm hs = record {
+  far-even s g m n m′ n′ t Nothing hf h hm hs =
+      record { state = refl; gave = refl; tables = refl; memories = h; marks = hm; held = hs }
+  far-even s g m n m′ n′ t (Call w) hf h hm hs = record {
     state = refl;
     gave = refl;
     tables = refl;
-    agree = h;
-    left = k;
-    right = l;
+    memories = h;
     marks = hm;
     held = record { paging-on = hs .paging-on; ring-low = hs .ring-low; normal = hs .normal; alternate = hs .alternate };
   }
-  far-even s g m n m′ n′ t (ReadRegister x r) hf h k l hm hs = absurd hf
-  far-even s g m n m′ n′ t (WriteRegister x r) hf h k l hm hs = absurd hf
-  far-even s g m n m′ n′ t ReadPcr hf h k l hm hs = absurd hf
-  far-even s g m n m′ n′ t WritePcr hf h k l hm hs = absurd hf
-  far-even s g m n m′ n′ t (StoreBlock x) hf h k l hm hs = absurd hf
-  far-even s g m n m′ n′ t (LoadBlock x) hf h k l hm hs = absurd hf
+  far-even s g m n m′ n′ t (ReadRegister x r) hf h hm hs = absurd hf
+  far-even s g m n m′ n′ t (WriteRegister x r) hf h hm hs = absurd hf
+  far-even s g m n m′ n′ t ReadPcr hf h hm hs = absurd hf
+  far-even s g m n m′ n′ t WritePcr hf h hm hs = absurd hf
+  far-even s g m n m′ n′ t (StoreBlock x) hf h hm hs = absurd hf
+  far-even s g m n m′ n′ t (LoadBlock x) hf h hm hs = absurd hf
 
   settled-even : (s : State) (m n : List ℕ) (r q : Part) → Held t₀ a b ρ (coreOf s) → Even t₀ a b ρ m n r q → EvenTurn m n (settled s r) (settled s q)
   unfolding settled
   settled-even s m n r q hs e =
       rw (← e .near, ← e .tables)
-      (far-even (withCore s (r .near .core)) (r .near .gave) m n (r .memory) (q .memory) (r .tables) (r .near .far) (e .local) (e .agree) (e .left) (e .right) (e .marks) (put-held s (r .near .core) hs (e .held)))
+      (far-even (withCore s (r .near .core)) (r .near .gave) m n (r .memory) (q .memory) (r .tables) (r .near .far) (e .local) (e .memories) (e .marks) (put-held s (r .near .core) hs (e .held)))
 
   -- a run stops where a change of level is due, so a step that it makes is one of the level, or of a stopped machine
   step-even : ρ ≤ 1 → (s : State) (m n t : List ℕ) → changeDue s ≡ false → Held t₀ a b ρ (coreOf s) → Agree t₀ a b ρ m n → Marked t t₀
@@ -88,7 +84,7 @@ module _ (t₀ : List ℕ) (a b ρ : ℕ) where
           → EvenTurn m n (cond x (record { state = s; gave = 0; memory = m; tables = t }) (settled s (stepIn (s .level) (coreOf s) m t)))
           (cond x (record { state = s; gave = 0; memory = n; tables = t }) (settled s (stepIn (s .level) (coreOf s) n t)))
       go true e =
-          record { state = refl; gave = refl; tables = refl; agree = h; left = kept-refl t₀ a b ρ m; right = kept-refl t₀ a b ρ n; marks = hm; held = hs }
+          record { state = refl; gave = refl; tables = refl; memories = even-refl t₀ a b ρ m n h; marks = hm; held = hs }
       go false e = e
 
   -- what a run leaves
@@ -97,29 +93,25 @@ module _ (t₀ : List ℕ) (a b ρ : ℕ) where
     pub steps : r .steps ≡ q .steps
     pub reason : r .reason ≡ q .reason
     pub tables : r .tables ≡ q .tables
-    pub agree : Agree t₀ a b ρ (r .memory) (q .memory)
-    pub left : Kept t₀ a b ρ m (r .memory)
-    pub right : Kept t₀ a b ρ n (q .memory)
+    pub memories : EvenMemories t₀ a b ρ m n (r .memory) (q .memory)
     pub marks : Marked (r .tables) t₀
 
   -- the rest of a run, from any two memories that agree
   abbrev EvenRest : (ℕ → State → List ℕ → List ℕ → Run) → Type 0
   EvenRest f = (k : ℕ) (s : State) (m n t : List ℕ) → Held t₀ a b ρ (coreOf s) → Agree t₀ a b ρ m n → Marked t t₀ → EvenRun m n (f k s m t) (f k s n t)
 
-  ended-even : (w : Reason) (k : ℕ) (s : State) (m n m′ n′ t : List ℕ) → Agree t₀ a b ρ m′ n′ → Kept t₀ a b ρ m m′ → Kept t₀ a b ρ n n′ → Marked t t₀
+  ended-even : (w : Reason) (k : ℕ) (s : State) (m n m′ n′ t : List ℕ) → EvenMemories t₀ a b ρ m n m′ n′ → Marked t t₀
       → EvenRun m n (ended w k s m′ t) (ended w k s n′ t)
-  ended-even w k s m n m′ n′ t h l r hm =
-      record { state = refl; steps = refl; reason = refl; tables = refl; agree = h; left = l; right = r; marks = hm }
+  ended-even w k s m n m′ n′ t h hm =
+      record { state = refl; steps = refl; reason = refl; tables = refl; memories = h; marks = hm }
 
-  later : (m n m′ n′ : List ℕ) (r q : Run) → Kept t₀ a b ρ m m′ → Kept t₀ a b ρ n n′ → EvenRun m′ n′ r q → EvenRun m n r q
-  later m n m′ n′ r q l k e = record {
+  later : (m n m′ n′ : List ℕ) (r q : Run) → EvenMemories t₀ a b ρ m n m′ n′ → EvenRun m′ n′ r q → EvenRun m n r q
+  later m n m′ n′ r q h e = record {
     state = e .state;
     steps = e .steps;
     reason = e .reason;
     tables = e .tables;
-    agree = e .agree;
-    left = kept-trans t₀ a b ρ m m′ (r .memory) l (e .left);
-    right = kept-trans t₀ a b ρ n n′ (q .memory) k (e .right);
+    memories = even-trans t₀ a b ρ m n m′ n′ (r .memory) (q .memory) h (e .memories);
     marks = e .marks;
   }
 
@@ -130,10 +122,10 @@ module _ (t₀ : List ℕ) (a b ρ : ℕ) where
       go : (x : Bool)
           → EvenRun m n (cond x (ended Interrupt (suc k) (r .state) (r .memory) (r .tables)) (f (suc k) (r .state) (r .memory) (r .tables)))
           (cond x (ended Interrupt (suc k) (r .state) (q .memory) (r .tables)) (f (suc k) (r .state) (q .memory) (r .tables)))
-      go true = ended-even Interrupt (suc k) (r .state) m n (r .memory) (q .memory) (r .tables) (e .agree) (e .left) (e .right) (e .marks)
+      go true = ended-even Interrupt (suc k) (r .state) m n (r .memory) (q .memory) (r .tables) (e .memories) (e .marks)
       go false =
-          later m n (r .memory) (q .memory) (f (suc k) (r .state) (r .memory) (r .tables)) (f (suc k) (r .state) (q .memory) (r .tables)) (e .left) (e .right)
-          (hf (suc k) (r .state) (r .memory) (q .memory) (r .tables) (e .held) (e .agree) (e .marks))
+          later m n (r .memory) (q .memory) (f (suc k) (r .state) (r .memory) (r .tables)) (f (suc k) (r .state) (q .memory) (r .tables))
+          (e .memories) (hf (suc k) (r .state) (r .memory) (q .memory) (r .tables) (e .held) (e .memories .agree) (e .marks))
 
   -- before a step: stopped, a change of level due, or on; `rest` is what follows in each run
   before-even : (k : ℕ) (s : State) (m n t : List ℕ) (r q : Run) → Agree t₀ a b ρ m n → Marked t t₀ → (changeDue s ≡ false → EvenRun m n r q)
@@ -143,14 +135,14 @@ module _ (t₀ : List ℕ) (a b ρ : ℕ) where
     where
       go : (x y : Bool) → changeDue s ≡ y
           → EvenRun m n (cond x (ended Stopped k s m t) (cond y (ended Level k s m t) r)) (cond x (ended Stopped k s n t) (cond y (ended Level k s n t) q))
-      go true y d = ended-even Stopped k s m n m n t h (kept-refl t₀ a b ρ m) (kept-refl t₀ a b ρ n) hm
-      go false true d = ended-even Level k s m n m n t h (kept-refl t₀ a b ρ m) (kept-refl t₀ a b ρ n) hm
+      go true y d = ended-even Stopped k s m n m n t (even-refl t₀ a b ρ m n h) hm
+      go false true d = ended-even Level k s m n m n t (even-refl t₀ a b ρ m n h) hm
       go false false d = e d
 
   pub run-even : ρ ≤ 1 → (c : ℕ) → EvenRest (runFrom true c)
   run-even low zero k s m n t hs h hm =
       before-even k s m n t (ended Spent k s m t) (ended Spent k s n t) h hm
-      (λ d. ended-even Spent k s m n m n t h (kept-refl t₀ a b ρ m) (kept-refl t₀ a b ρ n) hm)
+      (λ d. ended-even Spent k s m n m n t (even-refl t₀ a b ρ m n h) hm)
   run-even low (suc c) k s m n t hs h hm =
       before-even k s m n t (afterStep true (runFrom true c) k (step s m t)) (afterStep true (runFrom true c) k (step s n t)) h hm
       (λ d. after-even (runFrom true c) (run-even low c) k m n (step s m t) (step s n t) (step-even low s m n t d hs h hm))

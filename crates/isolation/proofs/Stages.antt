@@ -27,7 +27,7 @@ use Rattle.isa.specs.declared.answer.Far.{Far}
 use Rattle.isa.specs.declared.answer.Far.the-variants.{Nothing, Call, ReadRegister, WriteRegister, ReadPcr, WritePcr, StoreBlock, LoadBlock}
 use Rattle.isa.proofs.Marks.{Marked}
 use Rattle.isolation.proofs.Accesses.{Held, Allowed, AllAllowed, HeldTests, core-allowed, core-marked, core-tests}
-use Rattle.isolation.proofs.Memories.{Agree, Kept, kept-refl, word-same, words-same, store-all}
+use Rattle.isolation.proofs.Memories.{Agree, EvenMemories, even-refl, word-same, words-same, store-all}
 
 -- what an unprivileged program leaves to be done outside its level: nothing, or a monitor call
 abbrev pub Local : Far → Type 0
@@ -64,9 +64,7 @@ module _ (t₀ : List ℕ) (a b ρ : ℕ) where
   pub record Even (m n : List ℕ) (r q : Part) : Type 0 where
     pub near : r .near ≡ q .near
     pub tables : r .tables ≡ q .tables
-    pub agree : Agree t₀ a b ρ (r .memory) (q .memory)
-    pub left : Kept t₀ a b ρ m (r .memory)
-    pub right : Kept t₀ a b ρ n (q .memory)
+    pub memories : EvenMemories t₀ a b ρ m n (r .memory) (q .memory)
     pub marks : Marked (r .tables) t₀
     pub held : Held t₀ a b ρ (r .near .core)
     pub local : Local (r .near .far)
@@ -139,9 +137,7 @@ module _ (t₀ : List ℕ) (a b ρ : ℕ) where
     quiet t c g far hm hc hf = record {
       near = refl;
       tables = refl;
-      agree = h;
-      left = kept-refl t₀ a b ρ m;
-      right = kept-refl t₀ a b ρ n;
+      memories = even-refl t₀ a b ρ m n h;
       marks = hm;
       held = hc;
       local = hf;
@@ -162,9 +158,7 @@ module _ (t₀ : List ℕ) (a b ρ : ℕ) where
           record {
             near = refl;
             tables = s .left-tables ∙ sym (s .right-tables);
-            agree = s .agree;
-            left = s .left;
-            right = s .right;
+            memories = s .memories;
             marks = rw (s .left-tables) hm;
             held = completed-held c d hc;
             local = tt;

@@ -21,7 +21,7 @@ use Rattle.isolation.specs.Statement.{Starts, Isolated, RefusedAlike}
 use Rattle.isa.proofs.Tests.{no-both}
 use Rattle.isa.proofs.Marks.{same-entry}
 use Rattle.isa.proofs.Permits.{writing-permitted}
-use Rattle.isolation.proofs.Memories.{Agree, Kept}
+use Rattle.isolation.proofs.Memories.{Agree, EvenMemories}
 use Rattle.isolation.proofs.Runs.{EvenRun, run-even}
 
 -- the answer to a start depends on memory's size alone
@@ -44,8 +44,9 @@ module _ (s : State) (t : List ℕ) where
   abbrev AgreeFrom : List ℕ → List ℕ → Type 0
   AgreeFrom m n = Agree t (normalTableOf (startPcr s)) (alternateTableOf (startPcr s)) (ringOf (startPcr s)) m n
 
-  abbrev KeptFrom : List ℕ → List ℕ → Type 0
-  KeptFrom m n = Kept t (normalTableOf (startPcr s)) (alternateTableOf (startPcr s)) (ringOf (startPcr s)) m n
+  abbrev MemoriesFrom : List ℕ → List ℕ → List ℕ → List ℕ → Type 0
+  MemoriesFrom m n m′ n′ =
+      EvenMemories t (normalTableOf (startPcr s)) (alternateTableOf (startPcr s)) (ringOf (startPcr s)) m n m′ n′
 
   abbrev EvenFrom : List ℕ → List ℕ → Run → Run → Type 0
   EvenFrom m n r q = EvenRun t (normalTableOf (startPcr s)) (alternateTableOf (startPcr s)) (ringOf (startPcr s)) m n r q
@@ -61,9 +62,9 @@ module _ (s : State) (t : List ℕ) where
       go false q = q
 
   -- from m and n to m′ and n′: a word of a foreign page is as it was in each, and of any other page is the same in both
-  module _ (m n m′ n′ : List ℕ) (h : AgreeFrom m n) (h′ : AgreeFrom m′ n′) (l : KeptFrom m m′) (r : KeptFrom n n′) where
+  module _ (m n m′ n′ : List ℕ) (h : AgreeFrom m n) (e : MemoriesFrom m n m′ n′) where
     both-kept : (k : ℕ) → reachable s t (k / 1024) ≡ false → (getD m′ k 0 ≡ getD m k 0) × (getD n′ k 0 ≡ getD n k 0)
-    both-kept k f = (l .same k (foreign-unwritten (k / 1024) f), r .same k (foreign-unwritten (k / 1024) f))
+    both-kept k f = (e .left .same k (foreign-unwritten (k / 1024) f), e .right .same k (foreign-unwritten (k / 1024) f))
 
     differ-kept : (k : ℕ) → differs m n k ≡ true → (getD m′ k 0 ≡ getD m k 0) × (getD n′ k 0 ≡ getD n k 0)
     differ-kept k d = go (reachable s t (k / 1024)) refl
@@ -76,23 +77,24 @@ module _ (s : State) (t : List ℕ) where
     differ-same k = go (reachable s t (k / 1024)) refl
       where
         go : (x : Bool) → reachable s t (k / 1024) ≡ x → differs m′ n′ k ≡ differs m n k
-        go true q = equal-words m′ n′ k (h′ .same k q) ∙ sym (equal-words m n k (h .same k q))
-        go false q = let e = both-kept k q in rw (e .0, e .1)
+        go true q = equal-words m′ n′ k (e .agree .same k q) ∙ sym (equal-words m n k (h .same k q))
+        go false q = let p = both-kept k q in rw (p .0, p .1)
 
   -- ---- the conclusions
 
   even-isolated : (m n : List ℕ) (r q : Run) → AgreeFrom m n → EvenFrom m n r q → Isolated s t m n (ranCall r) (ranCall q)
   even-isolated m n r q h e =
-      let d = differ-same m n (r .memory) (q .memory) h (e .agree) (e .left) (e .right) in
+      let w = e .memories in
+      let d = differ-same m n (r .memory) (q .memory) h w in
       record {
         answer = rw (e .steps, e .reason);
         state = e .state;
         tables = e .tables;
-        differing = differ-kept m n (r .memory) (q .memory) h (e .agree) (e .left) (e .right);
+        differing = differ-kept m n (r .memory) (q .memory) h w;
         no-other = λ k f. d k ∙ f;
-        count = ap (λ (x : ℕ). differingBelow x (r .memory) (q .memory)) (e .left .size) ∙ count-same m n (r .memory) (q .memory) d (length m);
-        left = record { size = e .left .size; unwritten = e .left .same; marks = e .marks };
-        right = record { size = e .right .size; unwritten = e .right .same; marks = rw (← e .tables) (e .marks) };
+        count = ap (λ (x : ℕ). differingBelow x (r .memory) (q .memory)) (w .left .size) ∙ count-same m n (r .memory) (q .memory) d (length m);
+        left = record { size = w .left .size; unwritten = w .left .same; marks = e .marks };
+        right = record { size = w .right .size; unwritten = w .right .same; marks = rw (← e .tables) (e .marks) };
       }
 
   -- a refused call leaves everything as it came
