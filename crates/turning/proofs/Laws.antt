@@ -7,7 +7,7 @@ use native.Mathlib.Omega.{arith}
 use native.Mathlib.Nat.{add-zero}
 use native.Mathlib.Numerals.{add-one}
 use lib.ListN.{length, getD, set, take, drop, length-take, length-drop}
-use lib.Seq.{take-suc, take-suc-set, take-all, drop-length}
+use lib.Seq.{take-suc, take-suc-set, take-all, drop-cons, drop-length}
 use borrow.Author.Tests.{lt-ltb, le-ltb}
 use Rattle.isa.specs.Answers.{LoadCall, loadCall}
 use Rattle.isa.specs.declared.answer.Answer.{Answer}
@@ -16,7 +16,7 @@ use Rattle.image.specs.Loading.{callOf}
 use Rattle.image.specs.declared.Loaded.{Loaded}
 use Rattle.turning.specs.Turn.{loadedBy, clearedState, imageTurned}
 use Rattle.turning.specs.Bytes.{wordsOf}
-use Rattle.turning.specs.Text.{decimalBefore, digit}
+use Rattle.turning.specs.Text.{decimalBefore, digit, octal, line, registerLines}
 
 -- ---- words
 
@@ -104,8 +104,27 @@ no-digit at n after e = ap (λ (k : ℕ). decimalBefore k n after) e
 pub then : (x y z k l : List ℕ) → y ≡ x ++ k → z ≡ y ++ l → z ≡ x ++ (k ++ l)
 then x y z k l e f = f ∙ ap (λ (s : List ℕ). s ++ l) e ∙ append-assoc x k l
 
-pub four : (x a b c d j k l m : List ℕ) → a ≡ x ++ j → b ≡ a ++ k → c ≡ b ++ l → d ≡ c ++ m → d ≡ x ++ (j ++ k ++ l ++ m)
-four x a b c d j k l m e f g h = then x c d (j ++ k ++ l) m (then x b c (j ++ k) l (then x a b j k e f) g) h
+-- one register's line more, of those that are left
+pub line-more : (all text more names words : List ℕ) (i : ℕ) → i < length names → i < length words
+    → text ++ registerLines (drop i names) (drop i words) ≡ all
+    → more ≡ text ++ line (getD names i 0 ∷ []) (octal (getD words i 0))
+    → more ++ registerLines (drop (i + 1) names) (drop (i + 1) words) ≡ all
+line-more all text more names words i n w e f =
+    let l = line (getD names i 0 ∷ []) (octal (getD words i 0)) in
+    let next = registerLines (drop (suc i) names) (drop (suc i) words) in
+    ap (λ (k : ℕ). more ++ registerLines (drop k names) (drop k words)) (add-one i)
+    ∙ ap (λ (x : List ℕ). x ++ next) f
+    ∙ append-assoc text l next
+    ∙ (λ k. text ++ registerLines (sym (drop-cons names i 0 n) k) (sym (drop-cons words i 0 w) k))
+    ∙ e
+
+-- none left
+pub lines-all : (all text names words : List ℕ) (i : ℕ) → i ≡ length names → text ++ registerLines (drop i names) (drop i words) ≡ all
+    → text ≡ all
+lines-all all text names words i h e =
+    sym (append-nil text)
+    ∙ ap (λ (x : List ℕ). text ++ registerLines x (drop i words)) (sym (ap (λ (k : ℕ). drop k names) h ∙ drop-length names))
+    ∙ e
 
 -- ---- an image loaded
 

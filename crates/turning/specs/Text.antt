@@ -45,24 +45,19 @@ reasonName Level = ascii "level"
 reasonName Spent = ascii "spent"
 reasonName Interrupt = ascii "interrupt"
 
--- registers 0 to 3, and 4 to 7
-abbrev pub lowRegisters : End → List ℕ
-lowRegisters e =
-    line (ascii "STS") (octal (e .sts)) ++ line (ascii "D") (octal (e .d)) ++ line (ascii "P") (octal (e .p))
-    ++ line (ascii "B") (octal (e .b))
-
-abbrev pub highRegisters : End → List ℕ
-highRegisters e =
-    line (ascii "L") (octal (e .l)) ++ line (ascii "A") (octal (e .a)) ++ line (ascii "T") (octal (e .t))
-    ++ line (ascii "X") (octal (e .x))
+-- a line for each register with a name of one letter: the names and the words in turn
+abbrev pub registerLines : List ℕ → List ℕ → List ℕ
+registerLines [] words = []
+registerLines (n ∷ names) [] = []
+registerLines (n ∷ names) (w ∷ words) = line (n ∷ []) (octal w) ++ registerLines names words
 
 -- "prints reason (`stopped` or `spent`), steps and level in decimal, then the running level's registers in octal"
 abbrev pub endText : End → List ℕ
 endText e =
     line (ascii "ended") (reasonName (e .reason)) ++ line (ascii "steps") (decimal (e .steps))
     ++ line (ascii "level") (decimal (e .level))
-    ++ lowRegisters e
-    ++ highRegisters e
+    ++ line (ascii "STS") (octal (e .sts))
+    ++ registerLines (ascii "DPBLATX") (e .d ∷ e .p ∷ e .b ∷ e .l ∷ e .a ∷ e .t ∷ e .x ∷ [])
 
 -- "or `refused N`"
 abbrev pub textOf : Turned → List ℕ

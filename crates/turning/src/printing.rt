@@ -1,9 +1,9 @@
 // The text that is printed, line by line.
 ghost use mathlib.Core.Path.{_≡_};
 ghost use mathlib.Core.List.{_++_};
-ghost use Prim.Native.Nat.{_+_, _≤_};
+ghost use Prim.Native.Nat.{_+_, _*_, _≤_};
 ghost use lib.ListN.{length, take, drop};
-ghost use Rattle.turning.specs.Text.{ascii, decimal, octal, line, reasonName, lowRegisters, highRegisters, endText, textOf};
+ghost use Rattle.turning.specs.Text.{ascii, decimal, octal, line, reasonName, registerLines, endText, textOf};
 use crate::End;
 use crate::Turned;
 use answers::refusal_number;
@@ -80,28 +80,20 @@ fn put_register(name: &[u8], w: u16, out: &mut [u8], at: usize) -> usize
     put_line(name, &digits, out, at)
 }
 
-// STS, D, P and B.
-fn put_low(e: End, out: &mut [u8], at: usize) -> usize
-    requires { ⌜ at + 38 ≤ length (now out) ⌝ }
-    ensures { λ r. ⌜ r ≡ at + 38 ⌝ }
-    ensures { λ r. ⌜ take r (now (out .exit)) ≡ take at (now (out .entry)) ++ lowRegisters e ⌝ }
+// The lines of registers with a name of one letter.
+fn put_registers(names: &[u8], words: &[u16], out: &mut [u8], at: usize) -> usize
+    requires { ⌜ length (now names) ≡ length (now words) ⌝ }
+    requires { ⌜ at + length (now names) * 9 ≤ length (now out) ⌝ }
+    ensures { λ r. ⌜ r ≡ at + length (now (names .entry)) * 9 ⌝ }
+    ensures { λ r. ⌜ take r (now (out .exit)) ≡ take at (now (out .entry)) ++ registerLines (now (names .entry)) (now (words .entry)) ⌝ }
 {
-    let d = put_register(&[b'S', b'T', b'S'], e.sts, out, at);
-    let p = put_register(&[b'D'], e.d, out, d);
-    let b = put_register(&[b'P'], e.p, out, p);
-    put_register(&[b'B'], e.b, out, b)
-}
-
-// L, A, T and X.
-fn put_high(e: End, out: &mut [u8], at: usize) -> usize
-    requires { ⌜ at + 36 ≤ length (now out) ⌝ }
-    ensures { λ r. ⌜ r ≡ at + 36 ⌝ }
-    ensures { λ r. ⌜ take r (now (out .exit)) ≡ take at (now (out .entry)) ++ highRegisters e ⌝ }
-{
-    let a = put_register(&[b'L'], e.l, out, at);
-    let t = put_register(&[b'A'], e.a, out, a);
-    let x = put_register(&[b'T'], e.t, out, t);
-    put_register(&[b'X'], e.x, out, x)
+    let mut end = at;
+    let mut i = 0;
+    while i < names.len() {
+        end = put_register(&[names[i]], words[i], out, end);
+        i += 1;
+    }
+    end
 }
 
 fn put_reason(w: Reason, out: &mut [u8]) -> usize
@@ -132,8 +124,9 @@ fn put_end(e: End, out: &mut [u8]) -> usize
     let a = put_reason(w, out);
     let b = put_number(&[b's', b't', b'e', b'p', b's'], e.steps, out, a);
     let c = put_number(&[b'l', b'e', b'v', b'e', b'l'], e.level as u64, out, b);
-    let d = put_low(e, out, c);
-    put_high(e, out, d)
+    let d = put_register(&[b'S', b'T', b'S'], e.sts, out, c);
+    let names = &[b'D', b'P', b'B', b'L', b'A', b'T', b'X'];
+    put_registers(names, &[e.d, e.p, e.b, e.l, e.a, e.t, e.x], out, d)
 }
 
 fn put_turned(t: Turned, out: &mut [u8]) -> usize

@@ -2,9 +2,9 @@
 -- Assumes nothing.
 use Prim.Native.Nat.{ℕ}
 use mathlib.Core.Path.{ap, _∙_}
-use mathlib.Core.List.{List, _++_}
+use mathlib.Core.List.{List, [], _∷_, _++_}
 use native.Mathlib.Omega.{arith}
-use Rattle.turning.specs.Text.{ascii, decimal, line, lowRegisters, highRegisters}
+use Rattle.turning.specs.Text.{ascii, decimal, octal, line, registerLines}
 use borrow.Author.Needs.{needs}
 use Rattle.turning.proofs.printing.put_end.Statement.{statement}
 use Rattle.turning.proofs.printing.put_end.Tie as tie
@@ -27,27 +27,38 @@ cast-put-number c = search needs
 put-number-requires-2 : tie.Need-put-number-requires-2
 put-number-requires-2 c κs = search needs
 
-put-low-requires : tie.Need-put-low-requires
-put-low-requires c κs = search needs
+slice-aggregate-put-register : tie.Need-slice-aggregate-put-register
+slice-aggregate-put-register c = search needs
 
-put-high-requires : tie.Need-put-high-requires
-put-high-requires c κs = search needs
+put-register-requires : tie.Need-put-register-requires
+put-register-requires c κs = search needs
+
+slice-aggregate-put-registers : tie.Need-slice-aggregate-put-registers
+slice-aggregate-put-registers c = search needs
+
+put-registers-requires : tie.Need-put-registers-requires
+put-registers-requires c κs = search needs
 
 same-length : tie.Need-same-length
 same-length c = search needs
 
 returns : tie.Need-returns
 returns c =
-    let high = c .before .before in
-    let low = high .before .before .before .before in
-    let level = low .before .before .before .before in
+    let rest = c .before .before in
+    let sts = rest .before .before .before .before .before .before .before in
+    let level = sts .before .before .before .before .before in
     let steps = level .before .before .before .before .before .before in
     let first = steps .before .before .before .before .before in
     let e = first .before .before .before .args .e in
-    let two = steps .put-number .ensures .1 ∙ ap (λ (x : List ℕ). x ++ line (ascii "steps") (decimal (e .steps))) (first .put-reason .ensures .1) in
+    let last = rest .put-registers .ensures in
+    let one = first .put-reason .ensures in
+    let two = steps .put-number .ensures .1 ∙ ap (λ (x : List ℕ). x ++ line (ascii "steps") (decimal (e .steps))) (one .1) in
     let three = level .put-number2 .ensures .1 ∙ ap (λ (x : List ℕ). x ++ line (ascii "level") (decimal (e .level))) two in
-    let four = low .put-low .ensures .1 ∙ ap (λ (x : List ℕ). x ++ lowRegisters e) three in
-    (omega (arith, high .put-high .ensures .0, low .put-low .ensures .0, level .put-number2 .ensures .0, steps .put-number .ensures .0, first .put-reason .ensures .0), high .put-high .ensures .1 ∙ ap (λ (x : List ℕ). x ++ highRegisters e) four)
+    let four = sts .put-register .ensures .1 ∙ ap (λ (x : List ℕ). x ++ line (ascii "STS") (octal (e .sts))) three in
+    let words = e .d ∷ e .p ∷ e .b ∷ e .l ∷ e .a ∷ e .t ∷ e .x ∷ [] in (
+      omega (arith, last .0, sts .put-register .ensures .0, level .put-number2 .ensures .0, steps .put-number .ensures .0, one .0),
+      last .1 ∙ ap (λ (x : List ℕ). x ++ registerLines (ascii "DPBLATX") words) four,
+    )
 
 pub put-end-spec : {M : Type 1} → statement M
 put-end-spec =
@@ -59,7 +70,9 @@ put-end-spec =
     slice-aggregate-put-number-2
     cast-put-number
     put-number-requires-2
-    put-low-requires
-    put-high-requires
+    slice-aggregate-put-register
+    put-register-requires
+    slice-aggregate-put-registers
+    put-registers-requires
     same-length
     returns)
