@@ -14,7 +14,7 @@ use Rattle.isa.specs.declared.machine.State.{State}
 use Rattle.isa.specs.declared.answer.Target.{Target}
 use Rattle.isa.specs.declared.answer.Answer.{Answer}
 use Rattle.isa.specs.declared.answer.Answer.the-variants.{Done, Refused}
-use Rattle.host.specs.Calls.{Left, leftOf, ended, called, wordsOf, badCall}
+use Rattle.host.specs.Calls.{Left, leftOf, ended, called, stateIn, wordsOf, badCall}
 
 -- ---- words put whole
 
@@ -61,12 +61,15 @@ module _ (n k : ℕ) (s : State) (m t x w y : List ℕ) (e : n ≡ k) where
       ∙ (λ i. leftOf n (cond (sym (eq-eqb n 0 h) i) (wordsOf s) w) m t (cond (sym (eq-eqb n 0 h) i) x y))
       ∙ ap (λ (j : ℕ). ended j s m t x w y) e
 
--- words that are a state, and others
-module _ (w m t y : List ℕ) (l : Left) where
-  pub called-well : length w ≡ 154 → l ≡ called w m t y l
-  unfolding called
-  called-well h = ap (λ (b : Bool). cond b l (leftOf badCall w m t y)) (sym (eq-eqb (length w) 154 h))
+-- words that are no state
+pub called-badly : (w m t y : List ℕ) (l : Left) → (length w ≡ 154 → ⊥) → leftOf badCall w m t y ≡ called w m t y l
+unfolding called
+called-badly w m t y l h = ap (λ (b : Bool). cond b l (leftOf badCall w m t y)) (sym (ne-eqb (length w) 154 h))
 
-  pub called-badly : (length w ≡ 154 → ⊥) → leftOf badCall w m t y ≡ called w m t y l
-  unfolding called
-  called-badly h = ap (λ (b : Bool). cond b l (leftOf badCall w m t y)) (sym (ne-eqb (length w) 154 h))
+-- the words' state s, an operation that gave r, and what was left by it
+pub called-well : {C : Type 0} (call : State → C) (end : C → Left) (w m t y : List ℕ) (s : State) (r : C) (l : Left)
+    → length w ≡ 154 → s ≡ stateIn w → r ≡ call s → l ≡ end r → l ≡ called w m t y (end (call (stateIn w)))
+unfolding called
+called-well call end w m t y s r l h given gave left =
+    let x = end (call (stateIn w)) in
+    left ∙ ap end (gave ∙ ap call given) ∙ ap (λ (b : Bool). cond b x (leftOf badCall w m t y)) (sym (eq-eqb (length w) 154 h))

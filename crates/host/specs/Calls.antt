@@ -7,6 +7,7 @@ use lib.Dec.{leb, eqb}
 use Rattle.isa.specs.Machine.{stateOf, controlWords}
 use Rattle.isa.specs.Answers.{StepCall, RunCall, StateCall, LoadCall, answerNumber, stepNumber, interruptGiven, runNumber, stepsTaken, reasonNumber, stepCall, runCall, raiseCall, loadCall, writeAnswer, writtenOutput, viewAnswer, viewed}
 use Rattle.isa.specs.declared.machine.State.{State}
+use Rattle.isa.specs.declared.answer.Answer.{Answer}
 use Rattle.isa.specs.declared.answer.Target.{Target}
 use Rattle.isa.specs.declared.answer.Target.the-variants.{Memory, Tables}
 use Rattle.isa.specs.declared.answer.RunAnswer.{RunAnswer}
@@ -64,14 +65,17 @@ abbrev pub hostRun : Bool → ℕ → List ℕ → List ℕ → List ℕ → Lis
 hostRun first n w m t y = called w m t y (runEnd w y (runCall first n (stateIn w) m t))
 
 -- raise and load tell nothing
+abbrev pub answerEnd : List ℕ → Answer → State → List ℕ → List ℕ → Left
+answerEnd w a s m t = ended (answerNumber a) s m t [] w []
+
 abbrev pub raiseEnd : List ℕ → List ℕ → List ℕ → StateCall → Left
-raiseEnd w m t c = ended (answerNumber (c .answer)) (c .state) m t [] w []
+raiseEnd w m t c = answerEnd w (c .answer) (c .state) m t
 
 abbrev pub hostRaise : ℕ → List ℕ → List ℕ → List ℕ → Left
 hostRaise l w m t = called w m t [] (raiseEnd w m t (raiseCall (stateIn w) l m t))
 
 abbrev pub loadEnd : List ℕ → LoadCall → Left
-loadEnd w c = ended (answerNumber (c .answer)) (c .state) (c .memory) (c .tables) [] w []
+loadEnd w c = answerEnd w (c .answer) (c .state) (c .memory) (c .tables)
 
 abbrev pub hostLoad : List ℕ → List ℕ → List ℕ → List ℕ → Left
 hostLoad i w m t = called w m t [] (loadEnd w (loadCall (stateIn w) i m t))

@@ -4,9 +4,9 @@ ghost use mathlib.Core.Path.{_≡_};
 ghost use mathlib.Core.Bool.{true, false};
 ghost use mathlib.Core.List.{_∷_, []};
 ghost use lib.ListN.{length};
-ghost use Rattle.host.specs.Calls.{leftOf, hostStep, hostRun, runEnd, reasonGiven, hostRaise, hostLoad, hostWrite, hostWritten, knownTarget, targetNamed, hostViewAnswer, hostView, hostViewed};
+ghost use Rattle.host.specs.Calls.{leftOf, stepEnd, hostStep, runEnd, hostRun, reasonGiven, answerEnd, hostRaise, hostLoad, hostWrite, hostWritten, knownTarget, targetNamed, hostViewAnswer, hostView, hostViewed};
 ghost use Rattle.isa.specs.Answers.{runCall};
-ghost use Rattle.nd110.specs.Calls.{runOf};
+ghost use Rattle.nd110.specs.Calls.{stepOf, runOf};
 use crate::words::put;
 use crate::words::put_state;
 use crate::words::state_in;
@@ -16,6 +16,7 @@ use answers::reason_number;
 use answers::run_number;
 use answers::step_number;
 use answers::steps_taken;
+use isa::answer::Answer;
 use isa::answer::RunAnswer;
 use isa::answer::Target;
 use isa::machine::State;
@@ -23,12 +24,29 @@ use nd110::raise::raise;
 use nd110::runs::Ran;
 use nd110::runs::through;
 use nd110::runs::to_interrupt;
+use nd110::step::Stepped;
 use nd110::step::step;
 
 mod words;
 
 // The number of a call that is no operation.
 const BAD_CALL: u16 = 11;
+
+// What a step answered, to the lent words.
+fn tell_step(r: Stepped, state: &mut [u16], interrupt: &mut u16) -> u16
+    requires { ⌜ length (now state) ≡ 154 ⌝ }
+    ensures { λ n. ⌜ ((m t : _) → leftOf n (now (state .exit)) m t (now (interrupt .exit) ∷ []) ≡ stepEnd (now (state .entry)) (now (interrupt .entry) ∷ []) (stepOf r m t)) ⌝ }
+{
+    let a = r.answer;
+    let n = step_number(a);
+    if n != 0 {
+        return n;
+    }
+    let after = r.state;
+    put_state(after, state);
+    *interrupt = interrupt_given(a);
+    0
+}
 
 // One step. `interrupt` gets the interrupt's number, 0 if none.
 #[no_mangle]
@@ -44,15 +62,7 @@ pub extern "C" fn nd110_step(
         return BAD_CALL;
     }
     let r = step(state_in(state), mem, tables);
-    let a = r.answer;
-    let n = step_number(a);
-    if n != 0 {
-        return n;
-    }
-    let after = r.state;
-    put_state(after, state);
-    *interrupt = interrupt_given(a);
-    0
+    tell_step(r, state, interrupt)
 }
 
 // A run's reason, 0 for one that was refused.
@@ -141,6 +151,19 @@ pub extern "C" fn nd110_run_to_interrupt(
     run_words(state, mem, tables, n, true, steps, reason)
 }
 
+// What an operation answered that tells no more, and the state that it left, to the lent words.
+fn tell_answer(a: Answer, after: State, state: &mut [u16]) -> u16
+    requires { ⌜ length (now state) ≡ 154 ⌝ }
+    ensures { λ n. ⌜ ((m t : _) → leftOf n (now (state .exit)) m t [] ≡ answerEnd (now (state .entry)) a after m t) ⌝ }
+{
+    let n = answer_number(a);
+    if n != 0 {
+        return n;
+    }
+    put_state(after, state);
+    0
+}
+
 // A device's interrupt.
 #[no_mangle]
 pub extern "C" fn nd110_raise(state: &mut [u16], level: u16, mem: &[u16], tables: &[u16]) -> u16
@@ -151,13 +174,8 @@ pub extern "C" fn nd110_raise(state: &mut [u16], level: u16, mem: &[u16], tables
     }
     let r = raise(state_in(state), level, mem, tables);
     let a = r.answer;
-    let n = answer_number(a);
-    if n != 0 {
-        return n;
-    }
     let after = r.state;
-    put_state(after, state);
-    0
+    tell_answer(a, after, state)
 }
 
 // The machine of an image.
@@ -175,13 +193,8 @@ pub extern "C" fn nd110_load(
     }
     let r = nd110::load(state_in(state), image, mem, tables);
     let a = r.answer;
-    let n = answer_number(a);
-    if n != 0 {
-        return n;
-    }
     let after = r.state;
-    put_state(after, state);
-    0
+    tell_answer(a, after, state)
 }
 
 // The machine as an image; words of the output past it stay.

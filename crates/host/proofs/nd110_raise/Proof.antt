@@ -1,12 +1,10 @@
 -- The level raised in the words' state, or a refusal.
 -- Assumes nothing.
-use Prim.Native.Nat.{ℕ}
-use mathlib.Core.Path.{refl, ap, _∙_}
-use mathlib.Core.List.{List, []}
+use mathlib.Core.List.{[]}
 use Rattle.isa.specs.Answers.{raiseCall}
 use Rattle.isa.specs.declared.machine.State.{State}
 use Rattle.host.specs.Calls.{raiseEnd}
-use Rattle.host.proofs.Laws.{ended-refused, ended-done, called-well, called-badly}
+use Rattle.host.proofs.Laws.{called-well, called-badly}
 use borrow.Author.Needs.{needs}
 use Rattle.host.proofs.nd110_raise.Statement.{statement}
 use Rattle.host.proofs.nd110_raise.Tie as tie
@@ -20,40 +18,22 @@ state-in-requires c κs = search needs
 raise-requires : tie.Need-raise-requires
 raise-requires c κs = search needs
 
-answer-number-requires : tie.Need-answer-number-requires
-answer-number-requires c κs = search needs
+tell-answer-requires : tie.Need-tell-answer-requires
+tell-answer-requires c κs = search needs
 
 same-length : tie.Need-same-length
 same-length c = search needs
 
 returns-2 : tie.Need-returns-2
 returns-2 c =
-    let done = c .before .before in
+    let told = c .before .before in
+    let done = told .before .before .before in
     let entered = done .before in
     let a = entered .before .before .before .before .before .before .args in
-    let w : List ℕ = a .state .now in
-    let same = done .raise .ensures ∙ ap (λ (s : State). raiseCall s (a .level) (a .mem .now) (a .tables .now)) (entered .state-in .ensures) in
-    ended-refused (c .before .answer-number .result) _ _ _ _ _ w [] (c .before .answer-number .ensures) (c .if2 .taken)
-    ∙ ap (raiseEnd w (a .mem .now) (a .tables .now)) same
-    ∙ called-well w _ _ [] _ (entered .before .before .if1 .left)
-
-put-state-requires : tie.Need-put-state-requires
-put-state-requires c κs = search needs
-
-same-length-2 : tie.Need-same-length-2
-same-length-2 c = search needs
-
-returns-3 : tie.Need-returns-3
-returns-3 c =
-    let stored = c .before .before in
-    let done = stored .before .before .before .before .before in
-    let entered = done .before in
-    let a = entered .before .before .before .before .before .before .args in
-    let w : List ℕ = a .state .now in
-    let same = done .raise .ensures ∙ ap (λ (s : State). raiseCall s (a .level) (a .mem .now) (a .tables .now)) (entered .state-in .ensures) in
-    ended-done (stored .before .before .before .before .answer-number .result) _ _ _ _ _ w [] (stored .before .before .before .before .answer-number .ensures) _ _ (stored .before .before .before .if2 .left) (stored .put-state .ensures) refl
-    ∙ ap (raiseEnd w (a .mem .now) (a .tables .now)) same
-    ∙ called-well w _ _ [] _ (entered .before .before .if1 .left)
+    let m = a .mem .now in
+    let t = a .tables .now in
+    called-well (λ (s : State). raiseCall s (a .level) m t) (raiseEnd (a .state .now) m t) (a .state .now) m t [] _ _ _
+    (entered .before .before .if1 .left) (entered .state-in .ensures) (done .raise .ensures) (told .tell-answer .ensures _ _)
 
 pub nd110-raise-spec : {M : Type 1} → statement M
 nd110-raise-spec =
@@ -62,9 +42,6 @@ nd110-raise-spec =
     returns
     state-in-requires
     raise-requires
-    answer-number-requires
+    tell-answer-requires
     same-length
-    returns-2
-    put-state-requires
-    same-length-2
-    returns-3)
+    returns-2)

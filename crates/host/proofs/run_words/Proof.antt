@@ -1,8 +1,6 @@
 -- A run of the words' state, or a refusal.
 -- Assumes nothing.
-use Prim.Native.Nat.{ℕ}
-use mathlib.Core.Path.{ap, _∙_}
-use mathlib.Core.List.{List, [], _∷_}
+use mathlib.Core.List.{[], _∷_}
 use Rattle.isa.specs.Answers.{runCall}
 use Rattle.isa.specs.declared.machine.State.{State}
 use Rattle.host.specs.Calls.{runEnd}
@@ -34,15 +32,15 @@ same-length-3 c = search needs
 
 returns-2 : tie.Need-returns-2
 returns-2 c =
-    let ran = c .before .before .before .before .before .before .before .before .before .before in
-    let entered = ran .before .before .before in
+    let told = c .before .before in
+    let done = told .before .before .before .before .before .before .before .before in
+    let entered = done .before .before .before in
     let a = entered .before .before .before .before .before .before .args in
-    let w : List ℕ = a .state .now in
-    let y : List ℕ = a .steps .now ∷ a .reason .now ∷ [] in
-    let same = ran .run-by .ensures ∙ ap (λ (s : State). runCall (a .first) (a .n) s (a .mem .now) (a .tables .now)) (entered .state-in .ensures) in
-    c .before .before .tell .ensures _ _
-    ∙ ap (runEnd w y) same
-    ∙ called-well w _ _ y _ (entered .before .before .if1 .left)
+    let m = a .mem .now in
+    let t = a .tables .now in
+    let y = a .steps .now ∷ a .reason .now ∷ [] in
+    called-well (λ (s : State). runCall (a .first) (a .n) s m t) (runEnd (a .state .now) y) (a .state .now) m t y _ _ _
+    (entered .before .before .if1 .left) (entered .state-in .ensures) (done .run-by .ensures) (told .tell .ensures _ _)
 
 pub run-words-spec : {M : Type 1} → statement M
 run-words-spec =
