@@ -9,12 +9,22 @@ use crate::numbers::within;
 use crate::show::sum;
 use answers::answer_number;
 use answers::reason_number;
-use answers::refusal_number;
+use isa::answer::Answer;
 use isa::answer::RunAnswer;
 use isa::answer::StepAnswer;
 use isa::answer::Target;
 use isa::machine::State;
 use nd110::runs::Ran;
+
+// An answer that tells no more, and the state that is left.
+fn answered(a: Answer, after: State) -> Told {
+    Told {
+        refusal: answer_number(a) as u64,
+        first: 0,
+        second: 0,
+        state: after,
+    }
+}
 
 fn step(s: State, mem: &mut [u16], tables: &mut [u16]) -> Told {
     let r = nd110::step::step(s, mem, tables);
@@ -27,12 +37,7 @@ fn step(s: State, mem: &mut [u16], tables: &mut [u16]) -> Told {
             second: 0,
             state: after,
         },
-        StepAnswer::Refused(x) => Told {
-            refusal: refusal_number(x) as u64,
-            first: 0,
-            second: 0,
-            state: after,
-        },
+        StepAnswer::Refused(x) => answered(Answer::Refused(x), after),
     }
 }
 
@@ -46,12 +51,7 @@ fn ran(r: Ran) -> Told {
             second: n,
             state: after,
         },
-        RunAnswer::Refused(x) => Told {
-            refusal: refusal_number(x) as u64,
-            first: 0,
-            second: 0,
-            state: after,
-        },
+        RunAnswer::Refused(x) => answered(Answer::Refused(x), after),
     }
 }
 
@@ -59,12 +59,7 @@ fn raise(s: State, level: u16, mem: &[u16], tables: &[u16]) -> Told {
     let r = nd110::raise::raise(s, level, mem, tables);
     let after = r.state;
     let a = r.answer;
-    Told {
-        refusal: answer_number(a) as u64,
-        first: 0,
-        second: 0,
-        state: after,
-    }
+    answered(a, after)
 }
 
 // An image in lent words.
@@ -72,12 +67,7 @@ fn load(s: State, image: &[u16], mem: &mut [u16], tables: &mut [u16]) -> Told {
     let r = nd110::load(s, image, mem, tables);
     let after = r.state;
     let a = r.answer;
-    Told {
-        refusal: answer_number(a) as u64,
-        first: 0,
-        second: 0,
-        state: after,
-    }
+    answered(a, after)
 }
 
 // The arguments past the first, as an image.
