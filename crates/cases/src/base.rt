@@ -1,6 +1,4 @@
 // The machine that every case starts from, before its changes.
-use isa::machine::Control;
-use isa::machine::State;
 
 // A word that tells its index.
 fn pattern(i: usize) -> u16 {
@@ -69,48 +67,5 @@ pub(crate) fn fill(kind: u16, size: usize, to: &mut [u16]) {
     while i < to.len() {
         to[i] = base_word(kind, size, i);
         i += 1;
-    }
-}
-
-fn registers(flat: &[u16; 154]) -> [u16; 128] {
-    let mut regs = [0u16; 128];
-    let mut i = 0;
-    while i < 128 {
-        regs[i] = flat[i];
-        i += 1;
-    }
-    regs
-}
-
-fn pcrs(flat: &[u16; 154]) -> [u16; 16] {
-    let mut found = [0u16; 16];
-    let mut i = 0;
-    while i < 16 {
-        found[i] = flat[i + 138];
-        i += 1;
-    }
-    found
-}
-
-// The state of registers and control words in image order.
-pub(crate) fn state_of(flat: &[u16; 154]) -> State {
-    let regs = registers(flat);
-    let pcr = pcrs(flat);
-    let control = Control {
-        interrupts: flat[129],
-        paging: flat[130],
-        stopped: flat[131],
-        pid: flat[132],
-        pie: flat[133],
-        pvl: flat[134],
-        iid: flat[135],
-        iie: flat[136],
-        pgs: flat[137],
-    };
-    State {
-        regs: regs,
-        level: flat[128],
-        control: control,
-        pcr: pcr,
     }
 }

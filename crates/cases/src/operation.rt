@@ -1,7 +1,6 @@
 // The operations, by number.
 use crate::answer::Told;
 use crate::base::fill;
-use crate::base::state_of;
 use crate::numbers::get;
 use crate::numbers::low;
 use crate::numbers::wide;
@@ -15,6 +14,7 @@ use isa::answer::StepAnswer;
 use isa::answer::Target;
 use isa::machine::State;
 use nd110::runs::Ran;
+use placing::state_in;
 
 // An answer that tells no more, and the state that is left.
 fn answered(a: Answer, after: State) -> Told {
@@ -132,7 +132,7 @@ fn view<'a>(
 fn load_over(image: &[u16], mem: &mut [u16], tables: &mut [u16]) -> Told {
     fill(2, 1024, mem);
     fill(1, 0, tables);
-    let s = state_of(&[0; 154]);
+    let s = state_in(&[0; 154]);
     load(s, image, mem, tables)
 }
 
@@ -158,7 +158,7 @@ pub(crate) fn act(
     tables: &mut [u16],
     out: &mut [u16],
 ) -> Told {
-    let s = state_of(flat);
+    let s = state_in(flat);
     let a = get(words, at, 5);
     let n = within(a, out);
     match get(words, at, 1) {

@@ -1,12 +1,12 @@
--- Words put whole, and what a call leaves by its number.
+-- Words put in front, and what a call leaves by its number.
 -- Assumes nothing.
-use Prim.Native.Nat.{ℕ, _+_, _≤_}
+use Prim.Native.Nat.{ℕ, _≤_}
 use mathlib.Core.Path.{_≡_, sym, ap, _∙_}
 use mathlib.Core.Bool.{Bool, cond}
-use mathlib.Core.List.{List, _++_, append-nil}
+use mathlib.Core.List.{List, _++_}
 use native.Mathlib.Omega.{arith}
 use native.Mathlib.Nat.{le-of-eq, zero-add}
-use lib.ListN.{length, take, drop, replicate, length-take, length-drop, length-replicate, drop-of-length-le}
+use lib.ListN.{length, drop, length-take}
 use lib.Seq.{paste, take-all}
 use borrow.Author.Tests.{eq-eqb, ne-eqb}
 use Rattle.isa.specs.Answers.{viewAnswer, viewedBy, viewed, targetOf}
@@ -16,24 +16,10 @@ use Rattle.isa.specs.declared.answer.Answer.{Answer}
 use Rattle.isa.specs.declared.answer.Answer.the-variants.{Done, Refused}
 use Rattle.host.specs.Calls.{Left, leftOf, ended, called, stateIn, wordsOf, badCall}
 
--- ---- words put whole
+-- ---- words put in front of others
 
--- in front of others
 pub put-front : (d w : List ℕ) (n : ℕ) → length w ≡ n → paste d 0 w n ≡ w ++ drop n d
 put-front d w n h = (λ i. take-all n w (le-of-eq h) i ++ drop (zero-add n i) d)
-
--- over as many
-pub put-all : (d w : List ℕ) (n : ℕ) → length d ≡ n → length w ≡ n → paste d 0 w n ≡ w
-put-all d w n hd hw =
-    put-front d w n hw ∙ ap (λ (x : List ℕ). w ++ x) (drop-of-length-le d {i = n} (le-of-eq hd)) ∙ append-nil w
-
--- over as many words that are 0, all of them
-pub put-over : (n : ℕ) (w : List ℕ) → length w ≡ n → paste (replicate n 0) 0 w (length w) ≡ w
-put-over n w h = ap (paste (replicate n 0) 0 w) h ∙ put-all (replicate n 0) w n (length-replicate n 0) h
-
--- the last n words
-pub rest-all : (a n : ℕ) (w : List ℕ) → length w ≡ a + n → take n (drop a w) ≡ drop a w
-rest-all a n w h = take-all n (drop a w) (simp length-drop (omega arith))
 
 -- a view is no longer than asked
 pub viewed-most : (k : Target) (a n : ℕ) (m t : List ℕ) → length (viewed k a n m t) ≤ n

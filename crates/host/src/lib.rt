@@ -4,18 +4,16 @@ ghost use mathlib.Core.Path.{_≡_};
 ghost use mathlib.Core.Bool.{true, false};
 ghost use mathlib.Core.List.{_∷_, []};
 ghost use lib.ListN.{length};
-ghost use Rattle.host.specs.Calls.{leftOf, stepEnd, hostStep, runEnd, hostRun, reasonGiven, answerEnd, hostRaise, hostLoad, hostWrite, hostWritten, knownTarget, targetNamed, hostViewAnswer, hostView, hostViewed};
+ghost use Rattle.host.specs.Calls.{wordsOf, leftOf, stepEnd, hostStep, runEnd, hostRun, reasonGiven, answerEnd, hostRaise, hostLoad, hostWrite, hostWritten, knownTarget, targetNamed, hostViewAnswer, hostView, hostViewed};
 ghost use Rattle.isa.specs.Answers.{runCall};
 ghost use Rattle.nd110.specs.Calls.{stepOf, runOf};
-use crate::words::put;
-use crate::words::put_state;
-use crate::words::state_in;
 use answers::answer_number;
 use answers::interrupt_given;
 use answers::reason_number;
 use answers::run_number;
 use answers::step_number;
 use answers::steps_taken;
+use copying::copy;
 use isa::answer::Answer;
 use isa::answer::RunAnswer;
 use isa::answer::Target;
@@ -26,11 +24,18 @@ use nd110::runs::through;
 use nd110::runs::to_interrupt;
 use nd110::step::Stepped;
 use nd110::step::step;
-
-mod words;
+use placing::state_in;
 
 // The number of a call that is no operation.
 const BAD_CALL: u16 = 11;
+
+// A state, to the lent words in image order: 128 registers, then 26 control words.
+fn put_state(s: State, words: &mut [u16])
+    requires { ⌜ length (now words) ≡ 154 ⌝ }
+    ensures { λ _. ⌜ now (words .exit) ≡ wordsOf s ⌝ }
+{
+    writing::put_state(s, words, 0);
+}
 
 // What a step answered, to the lent words.
 fn tell_step(r: Stepped, state: &mut [u16], interrupt: &mut u16) -> u16
@@ -264,7 +269,7 @@ pub extern "C" fn nd110_view<'a>(
     let n = nd110_view_answer(kind, start, len, mem, tables);
     if known_target(kind) {
         let part = nd110::view(target_named(kind), start, len, mem, tables);
-        put(out, 0, part);
+        copy(out, 0, part, 0, part.len());
     }
     n
 }

@@ -5,8 +5,8 @@ use mathlib.Core.Path.{_≡_, sym, ap, subst, _∙_}
 use mathlib.Core.Bool.{Bool, cond}
 use mathlib.Core.List.{List, _∷_, _++_, append-nil}
 use native.Mathlib.Omega.{arith}
-use native.Mathlib.Nat.{le-of-eq}
-use lib.ListN.{length, getD, drop, length-drop, drop-of-length-le}
+use native.Mathlib.Nat.{le-of-eq, zero-add}
+use lib.ListN.{length, getD, take, drop, length-drop, drop-of-length-le}
 use lib.Seq.{paste, take-all, drop-drop}
 use lib.Dec.{eqb}
 use borrow.Author.Tests.{eq-eqb}
@@ -71,9 +71,13 @@ pub one-placed : (k s n at x a b : ℕ) (i d d′ : List ℕ) → x ≡ k → a 
 one-placed k s n at x a b i d d′ e p q h =
     h ∙ (λ j. paste d (p j) (drop at i) (q j)) ∙ sym (ap (λ (y : Bool). cond y (paste d s (drop at i) n) d) (eq-eqb x k e))
 
--- sixteen words of 26, copied to sixteen
-pub copied-all : (w z : List ℕ) → length w ≡ 26 → length z ≡ 16 → paste z 0 (drop 10 w) 16 ≡ drop 10 w
-copied-all w z hw hz =
-    ap (λ (x : List ℕ). x ++ drop 16 z) (take-all 16 (drop 10 w) (simp length-drop (omega arith)))
-    ∙ ap (λ (x : List ℕ). drop 10 w ++ x) (drop-of-length-le z {i = 16} (le-of-eq hz))
-    ∙ append-nil (drop 10 w)
+-- the first n words, copied over n others
+pub copied-front : (n : ℕ) (w z : List ℕ) → length z ≡ n → paste z 0 w n ≡ take n w
+copied-front n w z h =
+    ap (λ (k : ℕ). take n w ++ drop k z) (zero-add n)
+    ∙ ap (λ (x : List ℕ). take n w ++ x) (drop-of-length-le z {i = n} (le-of-eq h))
+    ∙ append-nil (take n w)
+
+-- the n words past a, which are the last
+pub copied-rest : (a n : ℕ) (w z : List ℕ) → length w ≡ a + n → length z ≡ n → paste z 0 (drop a w) n ≡ drop a w
+copied-rest a n w z h k = copied-front n (drop a w) z k ∙ take-all n (drop a w) (simp length-drop (omega arith))

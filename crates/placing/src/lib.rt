@@ -2,7 +2,7 @@
 ghost use mathlib.Core.Path.{_≡_};
 ghost use mathlib.Core.Bool.{cond};
 ghost use Prim.Native.Nat.{_+_, _≤_};
-ghost use lib.ListN.{length, getD, drop};
+ghost use lib.ListN.{length, getD, take, drop};
 ghost use lib.Seq.{paste};
 ghost use lib.Dec.{eqb};
 ghost use Rattle.isa.specs.Machine.{stateOf};
@@ -85,6 +85,18 @@ pub fn state_of(regs: RegisterWords, words: ControlWords) -> State
         control: c,
         pcr: pcrs,
     }
+}
+
+// The state of 154 words in image order: the registers, then the control words.
+pub fn state_in(words: &[u16]) -> State
+    requires { ⌜ length (now words) ≡ 154 ⌝ }
+    ensures { λ s. ⌜ s ≡ stateOf (take 128 (now (words .entry))) (drop 128 (now (words .entry))) ⌝ }
+{
+    let mut regs = [0u16; 128];
+    let mut control = [0u16; 26];
+    copy(&mut regs, 0, words, 0, 128);
+    copy(&mut control, 0, words, 128, 26);
+    state_of(regs, control)
 }
 
 // The state that an image has.

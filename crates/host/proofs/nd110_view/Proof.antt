@@ -1,7 +1,7 @@
 -- The part in front of the output, where there is room for it.
 -- Assumes nothing.
 use Prim.Native.Nat.{ℕ, _≤_}
-use mathlib.Core.Path.{refl, sym, subst, _∙_}
+use mathlib.Core.Path.{refl, sym, _∙_}
 use mathlib.Core.List.{List}
 use lib.ListN.{length}
 use native.Mathlib.Omega.{arith}
@@ -28,11 +28,13 @@ target-named-requires c κs = search needs
 view-requires : tie.Need-view-requires
 view-requires c κs = search needs
 
-put-requires : tie.Need-put-requires
-put-requires c κs =
-    let a = c .before .before .before .before .before .before .before .before .before .before .args in
-    let most = subst (λ (v : List ℕ). length v ≤ a .len) (sym (c .before .view .ensures)) (viewed-most (c .before .before .target-named .result) (a .start) (a .len) (a .mem .now) (a .tables .now)) in
-    omega (arith, most)
+copy-requires : tie.Need-copy-requires
+copy-requires c κs =
+    let shown = c .before in
+    let a = shown .before .before .before .before .before .before .before .before .before .args in
+    let most = viewed-most (shown .before .target-named .result) (a .start) (a .len) (a .mem .now) (a .tables .now) in
+    let h : length (shown .view .result .now) ≤ a .len = rw (shown .view .ensures) most in
+    (omega (arith, h), omega arith)
 
 same-length : tie.Need-same-length
 same-length c = search needs
@@ -45,7 +47,7 @@ returns-2 c =
     let room = le-leb _ _ (shown .before .before .before .before .before .if1 .left) in
     let a = shown .before .before .before .before .before .before .before .before .before .args in
     let part = shown .view .result .now in
-    (shown .before .before .before .before .nd110-view-answer .ensures ∙ simp room, c .before .before .put .ensures ∙ put-front (a .out .now) part (length part) refl ∙ simp (shown .view .ensures, shown .before .target-named .ensures, known, room))
+    (shown .before .before .before .before .nd110-view-answer .ensures ∙ simp room, c .before .before .copy .ensures ∙ put-front (a .out .now) part (length part) refl ∙ simp (shown .view .ensures, shown .before .target-named .ensures, known, room))
 
 returns-3 : tie.Need-returns-3
 unfolding hostView hostViewed
@@ -63,7 +65,7 @@ nd110-view-spec =
     known-target-requires
     target-named-requires
     view-requires
-    put-requires
+    copy-requires
     same-length
     returns-2
     returns-3)

@@ -3,7 +3,7 @@
 use mathlib.Core.Path.{_≡_, refl, _∙_}
 use lib.ListN.{length, replicate}
 use borrow.Author.Needs.{needs}
-use Rattle.placing.proofs.Placed.{copied-all}
+use Rattle.placing.proofs.Placed.{copied-rest}
 use Rattle.placing.proofs.state_of.Statement.{statement}
 use Rattle.placing.proofs.state_of.Tie as tie
 
@@ -50,7 +50,7 @@ returns : tie.Need-returns
 returns c =
     let k = c .before .before .before .before in
     let e : length (k .args .t2) ≡ 26 = search needs in
-    simp (c .before .copy .ensures ∙ copied-all (k .args .t2) (replicate 16 0) e refl)
+    simp (c .before .copy .ensures ∙ copied-rest 10 16 (k .args .t2) (replicate 16 0) e refl)
 
 pub state-of-spec : {M : Type 1} → statement M
 state-of-spec =

@@ -4,11 +4,11 @@ use mathlib.Core.Path.{_≡_, sym, _∙_}
 use native.Mathlib.Omega.{arith}
 use lib.ListN.{length, length-map, length-append}
 use Rattle.isa.specs.Machine.{controlWords}
+use Rattle.placing.proofs.Placed.{copied-rest}
 use Rattle.host.specs.Calls.{wordsOf}
-use Rattle.host.proofs.Laws.{put-all}
 use borrow.Author.Needs.{needs}
-use Rattle.host.proofs.words.put_state.Statement.{statement}
-use Rattle.host.proofs.words.put_state.Tie as tie
+use Rattle.host.proofs.put_state.Statement.{statement}
+use Rattle.host.proofs.put_state.Tie as tie
 
 put-state-requires : tie.Need-put-state-requires
 put-state-requires c κs = search needs
@@ -23,7 +23,8 @@ returns c =
     let s = k .args .s in
     let regs : length (s .regs) ≡ 128 = sym (length-map (s .regs) _) ∙ k .good .0 .1 .1 .0 .1 .0 .1 in
     let pcrs : length (s .pcr) ≡ 16 = sym (length-map (s .pcr) _) ∙ k .good .0 .1 .1 .1 .1 .1 .0 .1 .0 .1 in
-    putting .put-state .ensures ∙ put-all (k .args .words .now) (wordsOf s) 154 (k .pre) (length-append (s .regs) (controlWords s) ∙ omega (arith, regs, pcrs))
+    let all : length (wordsOf s) ≡ 154 = length-append (s .regs) (controlWords s) ∙ omega (arith, regs, pcrs) in
+    putting .put-state .ensures ∙ copied-rest 0 154 (wordsOf s) (k .args .words .now) all (k .pre)
 
 pub put-state-spec : {M : Type 1} → statement M
 put-state-spec = tie.close (tie.spec put-state-requires same-length returns)
