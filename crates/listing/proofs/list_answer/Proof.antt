@@ -22,9 +22,9 @@ entries-answer-requires c κs =
 
 body-answer-requires : tie.Need-body-answer-requires
 body-answer-requires c κs =
-    let k = c .before .before .before in
-    let e = c .before .entry-count .ensures in
-    (subst (λ (n : ℕ). n * 5 + 1 ≤ length (k .args .image .now)) (sym e) (contents-whole _ (k .pre)), subst (λ (n : ℕ). n ≤ 32) (sym e) (contents-few _ (k .pre)))
+    let asked = c .before in
+    let few = contents-few _ (asked .before .before .pre) in
+    (entries-answer-requires asked (c .entries-answer .lifetimes), subst (λ (n : ℕ). n ≤ 32) (sym (asked .entry-count .ensures)) few)
 
 first-requires : tie.Need-first-requires
 first-requires c κs = search needs

@@ -49,11 +49,8 @@ wide-requires c κs = search needs
 
 add-at-2 : tie.Need-add-at-2 Inv-loop μ-loop
 add-at-2 c =
-    let l = c .before .before .before .before .before .before .before .loop in
-    let a = c .before .before .before .before .before .before .before .before .before .before .args in
-    let n = c .before .before .before .before .before .entry-at in
-    let x = body-lies (a .kind) (length (a .target .now)) (l .k) (a .n) (l .at) (a .image .now) (spanEntry (n .result)) (c .before .before .before .before .before .before .loop-test .taken) (n .ensures) (l .inv .1 .1 .0) (l .inv .1 .0) in
-    omega (arith, x .0, c .wide .ensures .0)
+    let put = c .before .before .before in
+    omega (arith, place-one-requires (put .before) (put .place-one .lifetimes) .0, c .wide .ensures .0)
 
 add-k : tie.Need-add-k Inv-loop μ-loop
 add-k c = search needs
