@@ -1,8 +1,6 @@
 -- By the number: what the run tells, or nothing.
 -- Assumes nothing.
 use mathlib.Core.List.{[], _∷_}
-use Rattle.isa.specs.Answers.{runNumber, stepsTaken}
-use Rattle.host.specs.Calls.{reasonGiven}
 use Rattle.host.proofs.Laws.{ended-refused, ended-done}
 use borrow.Author.Needs.{needs}
 use Rattle.host.proofs.tell.Statement.{statement}
@@ -12,9 +10,7 @@ run-number-requires : tie.Need-run-number-requires
 run-number-requires c κs = search needs
 
 returns : tie.Need-returns
-returns c = λ m t.
-    let a = c .before .before .before .args in
-    ended-refused (c .before .run-number .result) (runNumber (a .r .answer)) (a .r .state) m t (stepsTaken (a .r .answer) ∷ reasonGiven (a .r .answer) ∷ []) (a .state .now) (a .steps .now ∷ a .reason .now ∷ []) (c .before .run-number .ensures) (c .if1 .taken)
+returns c = λ m t. ended-refused _ _ _ m t _ _ _ (c .before .run-number .ensures) (c .if1 .taken)
 
 put-state-requires : tie.Need-put-state-requires
 put-state-requires c κs = search needs
@@ -31,9 +27,8 @@ same-length c = search needs
 returns-2 : tie.Need-returns-2
 returns-2 c = λ m t.
     let stored = c .before .before .before .before in
-    let asked = stored .before .before .before .before in
-    let a = asked .before .before .args in
-    ended-done (asked .run-number .result) (runNumber (a .r .answer)) (a .r .state) m t (stepsTaken (a .r .answer) ∷ reasonGiven (a .r .answer) ∷ []) (a .state .now) (a .steps .now ∷ a .reason .now ∷ []) (asked .run-number .ensures) _ _ (stored .before .before .before .if1 .left) (stored .put-state .ensures)
+    let left = stored .before .before .before in
+    ended-done _ _ _ m t _ _ _ (left .before .run-number .ensures) _ _ (left .if1 .left) (stored .put-state .ensures)
     (λ i. c .before .steps-taken .ensures i ∷ c .reason-given .ensures i ∷ [])
 
 pub tell-spec : {M : Type 1} → statement M

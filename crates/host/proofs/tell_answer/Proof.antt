@@ -1,8 +1,6 @@
 -- By the number: the state, or nothing.
 -- Assumes nothing.
 use mathlib.Core.Path.{refl}
-use mathlib.Core.List.{[]}
-use Rattle.isa.specs.Answers.{answerNumber}
 use Rattle.host.proofs.Laws.{ended-refused, ended-done}
 use borrow.Author.Needs.{needs}
 use Rattle.host.proofs.tell_answer.Statement.{statement}
@@ -12,10 +10,7 @@ answer-number-requires : tie.Need-answer-number-requires
 answer-number-requires c κs = search needs
 
 returns : tie.Need-returns
-returns c = λ m t.
-    let asked = c .before .answer-number in
-    let a = c .before .before .before .args in
-    ended-refused (asked .result) (answerNumber (a .a)) (a .after) m t [] (a .state .now) [] (asked .ensures) (c .if1 .taken)
+returns c = λ m t. ended-refused _ _ _ m t _ _ _ (c .before .answer-number .ensures) (c .if1 .taken)
 
 put-state-requires : tie.Need-put-state-requires
 put-state-requires c κs = search needs
@@ -27,10 +22,7 @@ returns-2 : tie.Need-returns-2
 returns-2 c = λ m t.
     let stored = c .before .before in
     let left = stored .before .before in
-    let asked = left .before .answer-number in
-    let a = left .before .before .before .args in
-    ended-done (asked .result) (answerNumber (a .a)) (a .after) m t [] (a .state .now) [] (asked .ensures) _ _ (left .if1 .left)
-    (stored .put-state .ensures) refl
+    ended-done _ _ _ m t _ _ _ (left .before .answer-number .ensures) _ _ (left .if1 .left) (stored .put-state .ensures) refl
 
 pub tell-answer-spec : {M : Type 1} → statement M
 tell-answer-spec =

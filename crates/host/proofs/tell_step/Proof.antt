@@ -3,7 +3,6 @@
 use Prim.Native.Nat.{ℕ}
 use mathlib.Core.Path.{ap}
 use mathlib.Core.List.{[], _∷_}
-use Rattle.isa.specs.Answers.{stepNumber, interruptGiven}
 use Rattle.host.proofs.Laws.{ended-refused, ended-done}
 use borrow.Author.Needs.{needs}
 use Rattle.host.proofs.tell_step.Statement.{statement}
@@ -13,12 +12,7 @@ step-number-requires : tie.Need-step-number-requires
 step-number-requires c κs = search needs
 
 returns : tie.Need-returns
-returns c = λ m t.
-    let asked = c .before .step-number in
-    let a = c .before .before .before .args in
-    let r = a .r in
-    ended-refused (asked .result) (stepNumber (r .answer)) (r .state) m t (interruptGiven (r .answer) ∷ []) (a .state .now)
-    (a .interrupt .now ∷ []) (asked .ensures) (c .if1 .taken)
+returns c = λ m t. ended-refused _ _ _ m t _ _ _ (c .before .step-number .ensures) (c .if1 .taken)
 
 put-state-requires : tie.Need-put-state-requires
 put-state-requires c κs = search needs
@@ -33,11 +27,7 @@ returns-2 : tie.Need-returns-2
 returns-2 c = λ m t.
     let stored = c .before .before .before in
     let left = stored .before .before .before in
-    let asked = left .before .step-number in
-    let a = left .before .before .before .args in
-    let r = a .r in
-    ended-done (asked .result) (stepNumber (r .answer)) (r .state) m t (interruptGiven (r .answer) ∷ []) (a .state .now)
-    (a .interrupt .now ∷ []) (asked .ensures) _ _ (left .if1 .left) (stored .put-state .ensures)
+    ended-done _ _ _ m t _ _ _ (left .before .step-number .ensures) _ _ (left .if1 .left) (stored .put-state .ensures)
     (ap (λ (n : ℕ). n ∷ []) (c .interrupt-given .ensures))
 
 pub tell-step-spec : {M : Type 1} → statement M
