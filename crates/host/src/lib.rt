@@ -2,7 +2,8 @@
 // document 01's number of a refusal, or 11 for a call that is no operation; only 0 changes lent words. include/nd110.h declares them.
 ghost use mathlib.Core.Path.{_≡_};
 ghost use mathlib.Core.Bool.{true, false};
-ghost use mathlib.Core.List.{_∷_, []};
+ghost use Prim.Native.Nat.{ℕ};
+ghost use mathlib.Core.List.{List, _∷_, []};
 ghost use lib.ListN.{length};
 ghost use Rattle.host.specs.Calls.{wordsOf, leftOf, stepEnd, hostStep, runEnd, hostRun, reasonGiven, answerEnd, hostRaise, hostLoad, hostWrite, hostWritten, knownTarget, targetNamed, hostViewAnswer, hostView, hostViewed};
 ghost use Rattle.isa.specs.Answers.{runCall};
@@ -40,7 +41,7 @@ fn put_state(s: State, words: &mut [u16])
 // What a step answered, to the lent words.
 fn tell_step(r: Stepped, state: &mut [u16], interrupt: &mut u16) -> u16
     requires { ⌜ length (now state) ≡ 154 ⌝ }
-    ensures { λ n. ⌜ ((m t : _) → leftOf n (now (state .exit)) m t (now (interrupt .exit) ∷ []) ≡ stepEnd (now (state .entry)) (now (interrupt .entry) ∷ []) (stepOf r m t)) ⌝ }
+    ensures { λ n. ⌜ ((m t : List ℕ) → leftOf n (now (state .exit)) m t (now (interrupt .exit) ∷ []) ≡ stepEnd (now (state .entry)) (now (interrupt .entry) ∷ []) (stepOf r m t)) ⌝ }
 {
     let a = r.answer;
     let n = step_number(a);
@@ -83,7 +84,7 @@ fn reason_given(a: RunAnswer) -> u16
 // What a run answered, to the lent words.
 fn tell(r: Ran, state: &mut [u16], steps: &mut u64, reason: &mut u16) -> u16
     requires { ⌜ length (now state) ≡ 154 ⌝ }
-    ensures { λ n. ⌜ ((m t : _) → leftOf n (now (state .exit)) m t (now (steps .exit) ∷ now (reason .exit) ∷ []) ≡ runEnd (now (state .entry)) (now (steps .entry) ∷ now (reason .entry) ∷ []) (runOf r m t)) ⌝ }
+    ensures { λ n. ⌜ ((m t : List ℕ) → leftOf n (now (state .exit)) m t (now (steps .exit) ∷ now (reason .exit) ∷ []) ≡ runEnd (now (state .entry)) (now (steps .entry) ∷ now (reason .entry) ∷ []) (runOf r m t)) ⌝ }
 {
     let a = r.answer;
     let n = run_number(a);
@@ -159,7 +160,7 @@ pub extern "C" fn nd110_run_to_interrupt(
 // What an operation answered that tells no more, and the state that it left, to the lent words.
 fn tell_answer(a: Answer, after: State, state: &mut [u16]) -> u16
     requires { ⌜ length (now state) ≡ 154 ⌝ }
-    ensures { λ n. ⌜ ((m t : _) → leftOf n (now (state .exit)) m t [] ≡ answerEnd (now (state .entry)) a after m t) ⌝ }
+    ensures { λ n. ⌜ ((m t : List ℕ) → leftOf n (now (state .exit)) m t [] ≡ answerEnd (now (state .entry)) a after m t) ⌝ }
 {
     let n = answer_number(a);
     if n != 0 {
