@@ -4,8 +4,7 @@ ghost use mathlib.Core.Path.{_≡_};
 ghost use Rattle.isa.specs.Decode.{decode};
 use crate::fields::source_of;
 use crate::privileged::ident;
-use crate::privileged::mcl_of;
-use crate::privileged::mst_of;
+use crate::privileged::masked_of;
 use crate::privileged::switch_of;
 use crate::privileged::tra_of;
 use crate::privileged::trr_of;
@@ -73,8 +72,8 @@ pub fn transfer_class(w: u16) -> Instruction
     match w / 64 {
         832 => tra_of(w % 64),
         833 => trr_of(w % 64),
-        834 => mcl_of(w % 64),
-        835 => mst_of(w % 64),
+        834 => masked_of(false, w % 64),
+        835 => masked_of(true, w % 64),
         836 => switch_of(w % 64),
         _ => Instruction::Illegal,
     }

@@ -1,6 +1,7 @@
 // Privileged instructions with their fields. A number n is the low six bits.
 ghost use Prim.Native.Nat.{_%_};
 ghost use mathlib.Core.Path.{_≡_};
+ghost use mathlib.Core.Bool.{cond};
 ghost use Rattle.isa.specs.declared.instruction.ControlOp.the-variants.{Wait, Tra, Trr, Mcl, Mst};
 ghost use Rattle.isa.specs.declared.instruction.System.the-variants.{Irr, Irw, Iox, Ident};
 ghost use Rattle.isa.specs.declared.instruction.Instruction.the-variants.{Privileged};
@@ -66,40 +67,24 @@ pub fn trr_of(n: u16) -> Instruction
     }
 }
 
-// MCL of a register.
-fn mcl(r: Maskable) -> Instruction
-    ensures { λ i. ⌜ i ≡ control (Mcl r) ⌝ }
+// MST of a register, or MCL.
+fn masked(set: bool, r: Maskable) -> Instruction
+    ensures { λ i. ⌜ i ≡ control (cond set Mst Mcl r) ⌝ }
 {
+    if set {
+        return Instruction::Privileged(System::Control(ControlOp::Mst(r)));
+    }
     Instruction::Privileged(System::Control(ControlOp::Mcl(r)))
 }
 
-// MCL: the internal register whose bits are cleared.
-pub fn mcl_of(n: u16) -> Instruction
-    ensures { λ r. ⌜ r ≡ maskedOf Mcl n ⌝ }
+// MST or MCL: the internal register whose bits are set or cleared.
+pub fn masked_of(set: bool, n: u16) -> Instruction
+    ensures { λ r. ⌜ r ≡ maskedOf (cond set Mst Mcl) n ⌝ }
 {
     match n {
-        1 => mcl(Maskable::Status),
-        6 => mcl(Maskable::Pid),
-        7 => mcl(Maskable::Pie),
-        _ => Instruction::Illegal,
-    }
-}
-
-// MST of a register.
-fn mst(r: Maskable) -> Instruction
-    ensures { λ i. ⌜ i ≡ control (Mst r) ⌝ }
-{
-    Instruction::Privileged(System::Control(ControlOp::Mst(r)))
-}
-
-// MST: the internal register whose bits are set.
-pub fn mst_of(n: u16) -> Instruction
-    ensures { λ r. ⌜ r ≡ maskedOf Mst n ⌝ }
-{
-    match n {
-        1 => mst(Maskable::Status),
-        6 => mst(Maskable::Pid),
-        7 => mst(Maskable::Pie),
+        1 => masked(set, Maskable::Status),
+        6 => masked(set, Maskable::Pid),
+        7 => masked(set, Maskable::Pie),
         _ => Instruction::Illegal,
     }
 }

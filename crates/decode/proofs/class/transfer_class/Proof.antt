@@ -13,11 +13,11 @@ tra-of-requires c κs = search needs
 trr-of-requires : tie.Need-trr-of-requires
 trr-of-requires c κs = search needs
 
-mcl-of-requires : tie.Need-mcl-of-requires
-mcl-of-requires c κs = search needs
+masked-of-requires : tie.Need-masked-of-requires
+masked-of-requires c κs = search needs
 
-mst-of-requires : tie.Need-mst-of-requires
-mst-of-requires c κs = search needs
+masked-of-requires-2 : tie.Need-masked-of-requires-2
+masked-of-requires-2 c κs = search needs
 
 switch-of-requires : tie.Need-switch-of-requires
 switch-of-requires c κs = search needs
@@ -52,8 +52,8 @@ transfer-class-spec =
     (tie.spec
     tra-of-requires
     trr-of-requires
-    mcl-of-requires
-    mst-of-requires
+    masked-of-requires
+    masked-of-requires-2
     switch-of-requires
     returns
     returns-2

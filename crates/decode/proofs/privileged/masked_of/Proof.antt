@@ -4,17 +4,17 @@ use mathlib.Core.Path.{refl}
 use mathlib.Core.List.{[], _∷_}
 use Rattle.isa.specs.Decode.{maskedOf}
 use Rattle.decode.proofs.Laws.{needs, no-code}
-use Rattle.decode.proofs.privileged.mcl_of.Statement.{statement}
-use Rattle.decode.proofs.privileged.mcl_of.Tie as tie
+use Rattle.decode.proofs.privileged.masked_of.Statement.{statement}
+use Rattle.decode.proofs.privileged.masked_of.Tie as tie
 
-mcl-requires : tie.Need-mcl-requires
-mcl-requires c κs = search needs
+masked-requires : tie.Need-masked-requires
+masked-requires c κs = search needs
 
-mcl-requires-2 : tie.Need-mcl-requires-2
-mcl-requires-2 c κs = search needs
+masked-requires-2 : tie.Need-masked-requires-2
+masked-requires-2 c κs = search needs
 
-mcl-requires-3 : tie.Need-mcl-requires-3
-mcl-requires-3 c κs = search needs
+masked-requires-3 : tie.Need-masked-requires-3
+masked-requires-3 c κs = search needs
 
 returns : tie.Need-returns
 unfolding maskedOf
@@ -32,7 +32,7 @@ returns-4 : tie.Need-returns-4
 unfolding maskedOf
 returns-4 c = no-code (7 ∷ 6 ∷ 1 ∷ []) 16 _ _ _ refl refl (c .match .rest)
 
-pub mcl-of-spec : {M : Type 1} → statement M
-mcl-of-spec =
+pub masked-of-spec : {M : Type 1} → statement M
+masked-of-spec =
     tie.close
-    (tie.spec mcl-requires mcl-requires-2 mcl-requires-3 returns returns-2 returns-3 returns-4)
+    (tie.spec masked-requires masked-requires-2 masked-requires-3 returns returns-2 returns-3 returns-4)
