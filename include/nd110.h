@@ -1,26 +1,30 @@
 /*
  * nd110.h: the proved ND-110 engine for a board's host program.
  *
- * Link with libhost.a (`rt staticlib host` writes target/staticlib/libhost.a). docs/HOST.md tells how, with an example.
+ * docs/HOST.md tells how to build the archive and link it; examples/host.c is a host to learn from.
  *
- * Every function answers ND110_DONE or the number of a refusal, and a refused call changes no lent word. That is proved, for whatever
- * numbers, lengths and words are handed in; nothing is required of the caller beyond what is said under "What cannot be seen".
+ * Every function answers ND110_DONE or the number of a refusal, and a refused call changes no lent word. That is
+ * proved, for whatever numbers, lengths and words are handed in; nothing is required of the caller beyond what is said
+ * under "What cannot be seen".
  *
  * Lent words
- *   state    ND110_STATE_WORDS words in image order: register n of level l is word 8 * l + n, control word n is word 128 + n
+ *   state    ND110_STATE_WORDS words in image order: register n of level l is word 8 * l + n, control word n is word
+ *            128 + n
  *   memory   1,024 to 524,288 words, a multiple of 1,024
  *   tables   ND110_TABLE_WORDS words: four page tables of 64 entries
- *   Each is handed in as a place and its length in words. The engine keeps nothing between calls and allocates nothing: a machine is
- *   these three, they belong to the caller, and the caller may read and write them between calls.
+ *   Each is handed in as a place and its length in words. The engine keeps nothing between calls and allocates nothing:
+ *   a machine is these three, they belong to the caller, and the caller may read and write them between calls.
  *
- * What can be seen, and is refused: every length; every word of the state; every word of an image; the level of a raise; the kind, start and
- * length of a view, sums that would wrap included.
+ * What can be seen, and is refused: every length; every word of the state; every word of an image; the level of a
+ * raise; the kind, start and length of a view, sums that would wrap included.
  *
  * What cannot be seen, and is the caller's to ensure:
- *   - a place that is null, or that no longer holds words (dangling): it is read or written all the same. ND110_LENT(p, n) hands in the
- *     length 0 for a null pointer, which is refused wherever words are needed; interrupt, steps and reason must not be null;
+ *   - a place that is null, or that no longer holds words (dangling): it is read or written all the same.
+ *     ND110_LENT(p, n) hands in the length 0 for a null pointer, which is refused wherever words are needed; interrupt,
+ *     steps and reason must not be null;
  *   - a length greater than what is lent there: the call reads or writes past the end;
- *   - places that overlap, where the call writes one of them: each is taken to be alone. image and out are lent words too;
+ *   - places that overlap, where the call writes one of them: each is taken to be alone. image and out are lent words
+ *     too;
  *   - a place that is not aligned for a word;
  *   - another thread that writes the same words during the call. Calls on different words may run at the same time.
  */
@@ -34,6 +38,9 @@
 extern "C" {
 #endif
 
+/* The version of this interface; docs/HOST.md tells what each changed. */
+#define ND110_VERSION 2
+
 /* Sizes, in words. An image that nd110_write makes has memory + ND110_IMAGE_EXTRA words. */
 #define ND110_STATE_WORDS 154
 #define ND110_TABLE_WORDS 256
@@ -41,7 +48,8 @@ extern "C" {
 #define ND110_MEMORY_MOST 524288
 #define ND110_IMAGE_EXTRA 431
 
-/* Answers: done, document 01's refusals, and a call that is no operation of document 01. */
+/* Answers: done, document 01's refusals, and a call that is no operation of document 01 (255, as document 02 gives 11
+ * to 18 to its requests). */
 #define ND110_DONE 0
 #define ND110_SIZES 1       /* memory or page tables of another size; before all others but ND110_BAD_CALL */
 #define ND110_STATE 2       /* a state out of its ranges; of load, the image's */
@@ -53,7 +61,7 @@ extern "C" {
 #define ND110_BODIES 8      /* load: bodies other than exactly the rest of the image */
 #define ND110_VIEW 9        /* view: start plus length beyond the target's size */
 #define ND110_OUTPUT 10     /* write: fewer than memory + ND110_IMAGE_EXTRA words of output */
-#define ND110_BAD_CALL 11   /* a state of other than 154 words; view: an unknown kind, or fewer than len words of output */
+#define ND110_BAD_CALL 255  /* a state of other than 154 words; view: an unknown kind, or too few words of output */
 
 /* Why a run ended. */
 #define ND110_STOPPED 0      /* the machine is stopped */
@@ -83,8 +91,8 @@ static inline size_t nd110_words(const uint16_t *p, size_t n) { return p ? n : 0
 uint16_t nd110_step(uint16_t *state, size_t state_len, uint16_t *memory, size_t memory_len,
                     uint16_t *tables, size_t tables_len, uint16_t *interrupt);
 
-/* At most n steps, interrupts and changes of level included. *steps gets how many were taken, *reason why it ended (ND110_STOPPED or
- * ND110_SPENT). ND110_BAD_CALL, ND110_SIZES, ND110_STATE. */
+/* At most n steps, interrupts and changes of level included. *steps gets how many were taken, *reason why it ended
+ * (ND110_STOPPED or ND110_SPENT). ND110_BAD_CALL, ND110_SIZES, ND110_STATE. */
 uint16_t nd110_run(uint16_t *state, size_t state_len, uint16_t *memory, size_t memory_len,
                    uint16_t *tables, size_t tables_len, uint64_t n, uint64_t *steps, uint16_t *reason);
 
@@ -99,8 +107,9 @@ uint16_t nd110_run_to_interrupt(uint16_t *state, size_t state_len, uint16_t *mem
 uint16_t nd110_raise(uint16_t *state, size_t state_len, uint16_t level, const uint16_t *memory,
                      size_t memory_len, const uint16_t *tables, size_t tables_len);
 
-/* The machine of an image: words, not bytes (an image file has the high byte first). Words that the image does not name become 0. The
- * state's words before the call may be any. ND110_BAD_CALL, ND110_SIZES, ND110_CONTENTS to ND110_BODIES, ND110_STATE. */
+/* The machine of an image: words, not bytes (an image file has the high byte first). Words that the image does not name
+ * become 0. The state's words before the call may be any.
+ * ND110_BAD_CALL, ND110_SIZES, ND110_CONTENTS to ND110_BODIES, ND110_STATE. */
 uint16_t nd110_load(uint16_t *state, size_t state_len, const uint16_t *image, size_t image_len,
                     uint16_t *memory, size_t memory_len, uint16_t *tables, size_t tables_len);
 
@@ -109,13 +118,13 @@ uint16_t nd110_load(uint16_t *state, size_t state_len, const uint16_t *image, si
 uint16_t nd110_write(const uint16_t *state, size_t state_len, const uint16_t *memory, size_t memory_len,
                      const uint16_t *tables, size_t tables_len, uint16_t *out, size_t out_len);
 
-/* len words from start on, of memory (ND110_MEMORY) or of the page tables (ND110_TABLES), copied to the front of out; words of out past
- * them stay. ND110_BAD_CALL, ND110_SIZES, ND110_VIEW. */
+/* len words from start on, of memory (ND110_MEMORY) or of the page tables (ND110_TABLES), copied to the front of out;
+ * words of out past them stay. ND110_BAD_CALL, ND110_SIZES, ND110_VIEW. */
 uint16_t nd110_view(uint16_t kind, size_t start, size_t len, const uint16_t *memory, size_t memory_len,
                     const uint16_t *tables, size_t tables_len, uint16_t *out, size_t out_len);
 
-/* What nd110_view of these would answer if there is room in out. After ND110_DONE the part is at memory + start or tables + start, to be
- * read in place. ND110_BAD_CALL (an unknown kind), ND110_SIZES, ND110_VIEW. */
+/* What nd110_view of these would answer if there is room in out. After ND110_DONE the part is at memory + start or
+ * tables + start, to be read in place. ND110_BAD_CALL (an unknown kind), ND110_SIZES, ND110_VIEW. */
 uint16_t nd110_view_answer(uint16_t kind, size_t start, size_t len, const uint16_t *memory,
                            size_t memory_len, const uint16_t *tables, size_t tables_len);
 

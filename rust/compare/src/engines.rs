@@ -1,0 +1,163 @@
+//! One operation on both engines, and whether they agree.
+
+use nd110::State as Words;
+use second::vectors::Start;
+use second::{Interrupt, Reason, State};
+
+/// The same machine twice: ours in the library's words, the other in the second engine's.
+pub struct Both {
+    pub ours: Words,
+    our_memory: Vec<u16>,
+    our_tables: Vec<u16>,
+    pub theirs: Start,
+}
+
+/// What the two answered, as text.
+pub type Answers = (String, String);
+
+fn same(ours: String, theirs: String) -> Result<(), Answers> {
+    if ours == theirs {
+        Ok(())
+    } else {
+        Err((ours, theirs))
+    }
+}
+
+impl Both {
+    pub fn new(start: &Start) -> Both {
+        Both {
+            ours: Words(start.state.to_words()),
+            our_memory: start.memory.clone(),
+            our_tables: start.tables.clone(),
+            theirs: start.clone(),
+        }
+    }
+
+    /// Registers of all levels, control words, page tables and memory.
+    pub fn equal(&self) -> bool {
+        self.ours.0 == self.theirs.state.to_words()
+            && self.our_tables == self.theirs.tables
+            && self.our_memory == self.theirs.memory
+    }
+
+    /// Words that differ, ours first.
+    pub fn differing(&self) -> Vec<String> {
+        let theirs = self.theirs.state.to_words();
+        let kinds = [
+            ("register", &self.ours.0[..128], &theirs[..128]),
+            ("control word", &self.ours.0[128..], &theirs[128..]),
+            ("page table word", &self.our_tables, &self.theirs.tables),
+            ("memory word", &self.our_memory, &self.theirs.memory),
+        ];
+        let mut lines = Vec::new();
+        for (name, ours, theirs) in kinds {
+            for (at, (a, b)) in ours.iter().zip(theirs).enumerate() {
+                if a != b {
+                    lines.push(format!("{name} {at:o}: proved {a:06o}, second {b:06o}"));
+                }
+            }
+        }
+        lines
+    }
+
+    /// A step of both. Err has what they answered, if that differs.
+    pub fn step(&mut self) -> Result<(), Answers> {
+        let ours = nd110::step(&mut self.ours, &mut self.our_memory, &mut self.our_tables);
+        let them = &mut self.theirs;
+        let theirs = second::step(&mut them.state, &mut them.memory, &mut them.tables);
+        let agreed = match (&ours, &theirs) {
+            (Ok(a), Ok(b)) => *a == b.map_or(0, Interrupt::number),
+            (Err(a), Err(b)) => a.number() == b.number(),
+            _ => false,
+        };
+        if agreed {
+            return Ok(());
+        }
+        Err((format!("{ours:?}"), format!("{theirs:?}")))
+    }
+
+    /// A run of both, through or to the first interrupt.
+    pub fn run(&mut self, steps: u64, first: bool) -> Result<(), Answers> {
+        let run = if first {
+            nd110::run_to_interrupt
+        } else {
+            nd110::run
+        };
+        let ours = run(
+            &mut self.ours,
+            &mut self.our_memory,
+            &mut self.our_tables,
+            steps,
+        );
+        let them = &mut self.theirs;
+        let theirs = second::run(
+            &mut them.state,
+            &mut them.memory,
+            &mut them.tables,
+            steps,
+            first,
+        );
+        let ours = ours
+            .map(|(n, why)| (n, why.number()))
+            .map_err(|r| r.number());
+        let theirs = theirs
+            .map(|(n, why)| (n, reason(why)))
+            .map_err(|r| r.number());
+        same(format!("{ours:?}"), format!("{theirs:?}"))
+    }
+
+    pub fn raise(&mut self, level: u16) -> Result<(), Answers> {
+        let ours = nd110::raise(&mut self.ours, level, &self.our_memory, &self.our_tables);
+        let them = &mut self.theirs;
+        let theirs = second::raise(&mut them.state, &them.memory, &them.tables, level);
+        let ours = ours.map_err(|r| r.number());
+        same(
+            format!("{ours:?}"),
+            format!("{:?}", theirs.map_err(|r| r.number())),
+        )
+    }
+
+    /// The image that each writes; Ok only if they are one.
+    pub fn write(&self) -> Result<Vec<u16>, Answers> {
+        let mut ours = vec![0o52525; self.our_memory.len() + nd110::IMAGE_EXTRA + 3];
+        let mut theirs = ours.clone();
+        let a = nd110::write(&self.ours, &self.our_memory, &self.our_tables, &mut ours);
+        let them = &self.theirs;
+        let b = second::write(&them.state, &them.memory, &them.tables, &mut theirs);
+        let a = a.map_err(|r| r.number());
+        let b = b.map(|_| ()).map_err(|r| r.number());
+        same(format!("{a:?}"), format!("{b:?}"))?;
+        if ours != theirs {
+            return Err(("another image".into(), "this image".into()));
+        }
+        Ok(ours)
+    }
+
+    /// Both load the image.
+    pub fn load(&mut self, image: &[u16]) -> Result<(), Answers> {
+        let ours = nd110::load(image, &mut self.our_memory, &mut self.our_tables);
+        let them = &mut self.theirs;
+        let theirs = second::load(image, &mut them.memory, &mut them.tables);
+        if let Ok(state) = &ours {
+            self.ours = *state;
+        }
+        if let Ok(state) = &theirs {
+            them.state = State::clone(state);
+        }
+        let ours = ours.map(|_| ()).map_err(|r| r.number());
+        same(
+            format!("{ours:?}"),
+            format!("{:?}", theirs.map(|_| ()).map_err(|r| r.number())),
+        )
+    }
+}
+
+/// The library's number of a reason.
+fn reason(why: Reason) -> u16 {
+    match why {
+        Reason::Stopped => 0,
+        Reason::Level => 1,
+        Reason::Spent => 2,
+        Reason::Interrupt => 3,
+    }
+}

@@ -1,0 +1,154 @@
+//! The first difference: as small an image as still shows it, the instruction, and the words that differ.
+
+use crate::engines::Both;
+use second::vectors::Start;
+use second::{PAGE, State, disassemble, next_word};
+
+/// Whether one step from here differs.
+pub fn differs(start: &Start) -> bool {
+    let mut both = Both::new(start);
+    both.step().is_err() || !both.equal()
+}
+
+/// Words set to 0, in blocks and then one by one, as long as the predicate holds.
+pub fn shrink(start: &mut Start, holds: impl Fn(&Start) -> bool) {
+    let mut words = start.state.to_words().to_vec();
+    let mut block = PAGE;
+    while block > 0 {
+        zero_blocks(&mut start.memory.clone(), block, |memory| {
+            let smaller = Start {
+                memory: memory.to_vec(),
+                ..start.clone()
+            };
+            let ok = holds(&smaller);
+            if ok {
+                *start = smaller;
+            }
+            ok
+        });
+        zero_blocks(&mut start.tables.clone(), block, |tables| {
+            let smaller = Start {
+                tables: tables.to_vec(),
+                ..start.clone()
+            };
+            let ok = holds(&smaller);
+            if ok {
+                *start = smaller;
+            }
+            ok
+        });
+        zero_blocks(&mut words, block, |words| {
+            let smaller = Start {
+                state: State::from_words(words.try_into().unwrap()),
+                ..start.clone()
+            };
+            let ok = holds(&smaller);
+            if ok {
+                *start = smaller;
+            }
+            ok
+        });
+        block /= 4;
+    }
+}
+
+/// Each block of `words` that is not 0 already becomes 0 if `keep` says so, else stays.
+fn zero_blocks(words: &mut [u16], block: usize, mut keep: impl FnMut(&[u16]) -> bool) {
+    for at in (0..words.len()).step_by(block) {
+        let end = (at + block).min(words.len());
+        let old = words[at..end].to_vec();
+        if old.iter().all(|word| *word == 0) {
+            continue;
+        }
+        words[at..end].fill(0);
+        if !keep(words) {
+            words[at..end].copy_from_slice(&old);
+        }
+    }
+}
+
+/// An image that names the words that are not 0, in at most 32 entries.
+fn image(start: &Start) -> Vec<u16> {
+    let words = start.state.to_words();
+    let kinds = [&start.memory, &words[..128], &words[128..], &start.tables];
+    let mut gap = 0;
+    loop {
+        let mut entries: Vec<(u16, usize, usize)> = Vec::new();
+        for (kind, words) in (1..).zip(kinds) {
+            for at in (0..words.len()).filter(|at| words[*at] != 0) {
+                match entries.last_mut() {
+                    Some((last, _, end)) if *last == kind && at <= *end + gap => *end = at + 1,
+                    _ => entries.push((kind, at, at + 1)),
+                }
+            }
+        }
+        if entries.len() <= 32 {
+            let mut image = vec![entries.len() as u16];
+            for (kind, at, end) in &entries {
+                let len = end - at;
+                image.extend([
+                    *kind,
+                    (at >> 16) as u16,
+                    *at as u16,
+                    (len >> 16) as u16,
+                    len as u16,
+                ]);
+            }
+            for (kind, at, end) in &entries {
+                image.extend(&kinds[usize::from(*kind) - 1][*at..*end]);
+            }
+            return image;
+        }
+        gap = 2 * gap + 1;
+    }
+}
+
+/// Prints a start from which one step differs.
+pub fn print(start: &Start) {
+    let mut start = start.clone();
+    shrink(&mut start, differs);
+    println!(
+        "difference, with {} pages, from the image (octal words)",
+        start.memory.len() / PAGE
+    );
+    for line in image(&start).chunks(10) {
+        let words: Vec<String> = line.iter().map(|word| format!("{word:06o}")).collect();
+        println!("  {}", words.join(" "));
+    }
+    let p = start.state.files[usize::from(start.state.level)][2];
+    match next_word(&start.state, &mut start.memory.clone(), &start.tables) {
+        Some(word) => println!(
+            "level {} at {p:06o}: {word:06o} {}",
+            start.state.level,
+            disassemble(word)
+        ),
+        None => println!("level {} at {p:06o}: no fetch", start.state.level),
+    }
+    let mut both = Both::new(&start);
+    if let Err((ours, theirs)) = both.step() {
+        println!("answer: proved {ours}, second {theirs}");
+    }
+    for line in both.differing() {
+        println!("{line}");
+    }
+}
+
+#[cfg(test)]
+mod tests {
+    use super::*;
+    use second::random::Random;
+    use second::vectors;
+
+    #[test]
+    fn shrinks_to_what_matters() {
+        let mut start = vectors::start(&mut Random::new(7));
+        start.memory[77] = 5;
+        start.state.files[3][5] = 9;
+        shrink(&mut start, |s| {
+            s.memory[77] == 5 && s.state.files[3][5] == 9
+        });
+        assert_eq!(start.memory.iter().filter(|w| **w != 0).count(), 1);
+        assert!(start.tables.iter().all(|w| *w == 0));
+        assert_eq!(image(&start), [2, 1, 0, 77, 0, 1, 2, 0, 29, 0, 1, 5, 9]);
+    }
+}

@@ -1,0 +1,58 @@
+//! What the tables name.
+
+use crate::Place::{self, Interrupt, State};
+use crate::Words;
+
+pub const STS: Place = State(0);
+pub const D: Place = State(1);
+pub const P: Place = State(2);
+pub const B: Place = State(3);
+pub const L: Place = State(4);
+pub const A: Place = State(5);
+pub const T: Place = State(6);
+pub const X: Place = State(7);
+
+pub const LEVEL: Place = State(128);
+pub const ION: Place = State(129);
+pub const PON: Place = State(130);
+pub const PID: Place = State(132);
+pub const PIE: Place = State(133);
+pub const PVL: Place = State(134);
+pub const IID: Place = State(135);
+pub const IIE: Place = State(136);
+pub const PGS: Place = State(137);
+
+/// A register of another level.
+pub const fn of(level: usize, register: Place) -> Place {
+    match register {
+        State(number) => State(8 * level + number),
+        other => other,
+    }
+}
+
+pub const fn pcr(level: usize) -> Place {
+    State(138 + level)
+}
+
+pub const K: u16 = 0o004;
+pub const Z: u16 = 0o010;
+pub const Q: u16 = 0o020;
+pub const O: u16 = 0o040;
+pub const C: u16 = 0o100;
+pub const M: u16 = 0o200;
+
+/// A decimal number of a manual as a word, and as the double word in A and D.
+pub const fn word(number: i16) -> u16 {
+    number as u16
+}
+pub const fn high(number: i32) -> u16 {
+    (number >> 16) as u16
+}
+pub const fn low(number: i32) -> u16 {
+    number as u16
+}
+
+/// Document 01 has no floating, decimal and SINTRAN instructions so far, and not all internal registers.
+pub const ILLEGAL: Words = &[(Interrupt, 4), (IID, 0o20)];
+/// Document 01 has no device.
+pub const NO_DEVICE: Words = &[(Interrupt, 7), (IID, 0o200)];

@@ -1,0 +1,174 @@
+//! The proved ND-110 engine for a Rust host: every operation of document 01 over lent words.
+//!
+//! Each function calls the static library's function of the same name. What the library cannot see for itself, slices
+//! of Rust ensure: they are not null, as long as they say, and do not overlap. So no call here is unsafe.
+//! `examples/host.rs` shows their use.
+
+#[allow(unsafe_code)]
+mod library;
+mod numbers;
+
+pub use numbers::{
+    Control, IMAGE_EXTRA, MEMORY_MOST, PAGE_WORDS, Reason, Refusal, Register, STATE_WORDS,
+    TABLE_WORDS, Target, VERSION,
+};
+
+/// A state as words in image order: register n of a level is word 8 * level + n, control word n is word 128 + n.
+#[derive(Clone, Copy, Debug, PartialEq, Eq)]
+pub struct State(pub [u16; STATE_WORDS]);
+
+impl State {
+    /// Every word 0: level 0, interrupts and paging off, not stopped.
+    pub fn new() -> State {
+        State([0; STATE_WORDS])
+    }
+
+    /// A register of a level.
+    ///
+    /// # Panics
+    /// If `level` is above 15.
+    pub fn register(&self, level: usize, register: Register) -> u16 {
+        assert!(level < 16, "no level {level}");
+        self.0[8 * level + register as usize]
+    }
+
+    /// A control word.
+    pub fn control(&self, word: Control) -> u16 {
+        self.0[128 + word as usize]
+    }
+
+    /// The PCR of a level.
+    ///
+    /// # Panics
+    /// If `level` is above 15.
+    pub fn pcr(&self, level: usize) -> u16 {
+        assert!(level < 16, "no level {level}");
+        self.0[128 + numbers::PCR + level]
+    }
+}
+
+impl Default for State {
+    fn default() -> State {
+        State::new()
+    }
+}
+
+/// 0 is done. The library is proved to answer no number but that and those of `Refusal`.
+fn answer(number: u16) -> Result<(), Refusal> {
+    if number == 0 {
+        return Ok(());
+    }
+    let refusal = Refusal::ALL.iter().find(|r| r.number() == number);
+    Err(*refusal.expect("a refusal's number"))
+}
+
+/// Steps taken and why a run ended; the library is proved to give a reason's number.
+fn ended(number: u16, steps: u64, reason: u16) -> Result<(u64, Reason), Refusal> {
+    answer(number)?;
+    Ok((steps, Reason::ALL[usize::from(reason)]))
+}
+
+/// One step; answers the number of the interrupt that it gave, 0 if none. Refuses 1, 2.
+pub fn step(state: &mut State, memory: &mut [u16], tables: &mut [u16]) -> Result<u16, Refusal> {
+    let mut interrupt = 0;
+    answer(library::step(&mut state.0, memory, tables, &mut interrupt))?;
+    Ok(interrupt)
+}
+
+/// At most `steps` steps, interrupts and changes of level included; answers steps taken and why it ended. Refuses 1, 2.
+pub fn run(
+    state: &mut State,
+    memory: &mut [u16],
+    tables: &mut [u16],
+    steps: u64,
+) -> Result<(u64, Reason), Refusal> {
+    let (mut taken, mut reason) = (0, 0);
+    let number = library::run(&mut state.0, memory, tables, steps, &mut taken, &mut reason);
+    ended(number, taken, reason)
+}
+
+/// At most `steps` steps, up to the first that gives an interrupt, or before a change of level. Refuses 1, 2.
+pub fn run_to_interrupt(
+    state: &mut State,
+    memory: &mut [u16],
+    tables: &mut [u16],
+    steps: u64,
+) -> Result<(u64, Reason), Refusal> {
+    let (mut taken, mut reason) = (0, 0);
+    let number =
+        library::run_to_interrupt(&mut state.0, memory, tables, steps, &mut taken, &mut reason);
+    ended(number, taken, reason)
+}
+
+/// A device raises a level. Refuses 1, 2, 3.
+pub fn raise(state: &mut State, level: u16, memory: &[u16], tables: &[u16]) -> Result<(), Refusal> {
+    answer(library::raise(&mut state.0, level, memory, tables))
+}
+
+/// The words of an image file, which has the high byte first. An odd count of bytes is refused 8.
+pub fn image_words(bytes: &[u8]) -> Result<Vec<u16>, Refusal> {
+    let (pairs, rest) = bytes.as_chunks();
+    if !rest.is_empty() {
+        return Err(Refusal::Bodies);
+    }
+    Ok(pairs.iter().map(|pair| u16::from_be_bytes(*pair)).collect())
+}
+
+/// The machine of an image. Refuses 1, 4 to 8, 2.
+pub fn load(image: &[u16], memory: &mut [u16], tables: &mut [u16]) -> Result<State, Refusal> {
+    let mut state = State::new();
+    answer(library::load(&mut state.0, image, memory, tables))?;
+    Ok(state)
+}
+
+/// The machine as an image of memory + 431 words; words of `out` past it stay. Refuses 1, 2, 10.
+pub fn write(
+    state: &State,
+    memory: &[u16],
+    tables: &[u16],
+    out: &mut [u16],
+) -> Result<(), Refusal> {
+    answer(library::write(&state.0, memory, tables, out))
+}
+
+/// A part of the lent memory or page tables. Refuses 1, 9.
+pub fn view<'a>(
+    target: Target,
+    start: usize,
+    len: usize,
+    memory: &'a [u16],
+    tables: &'a [u16],
+) -> Result<&'a [u16], Refusal> {
+    answer(library::view_answer(
+        target.number(),
+        start,
+        len,
+        memory,
+        tables,
+    ))?;
+    let words = match target {
+        Target::Memory => memory,
+        Target::Tables => tables,
+    };
+    Ok(&words[start..start + len])
+}
+
+/// The same part, copied to the front of `out`; words of `out` past it stay. Refuses 255 (`out` is shorter than
+/// `len`), 1, 9.
+pub fn view_into(
+    target: Target,
+    start: usize,
+    len: usize,
+    memory: &[u16],
+    tables: &[u16],
+    out: &mut [u16],
+) -> Result<(), Refusal> {
+    answer(library::view(
+        target.number(),
+        start,
+        len,
+        memory,
+        tables,
+        out,
+    ))
+}

@@ -1,0 +1,231 @@
+//! The static library's functions: the one declaration of them, and a safe call of each. A slice goes as place and
+//! length. `tests/header.rs` holds the declaration to include/nd110.h.
+
+mod raw {
+    unsafe extern "C" {
+        pub fn nd110_step(
+            state: *mut u16,
+            state_len: usize,
+            memory: *mut u16,
+            memory_len: usize,
+            tables: *mut u16,
+            tables_len: usize,
+            interrupt: *mut u16,
+        ) -> u16;
+        pub fn nd110_run(
+            state: *mut u16,
+            state_len: usize,
+            memory: *mut u16,
+            memory_len: usize,
+            tables: *mut u16,
+            tables_len: usize,
+            n: u64,
+            steps: *mut u64,
+            reason: *mut u16,
+        ) -> u16;
+        pub fn nd110_run_to_interrupt(
+            state: *mut u16,
+            state_len: usize,
+            memory: *mut u16,
+            memory_len: usize,
+            tables: *mut u16,
+            tables_len: usize,
+            n: u64,
+            steps: *mut u64,
+            reason: *mut u16,
+        ) -> u16;
+        pub fn nd110_raise(
+            state: *mut u16,
+            state_len: usize,
+            level: u16,
+            memory: *const u16,
+            memory_len: usize,
+            tables: *const u16,
+            tables_len: usize,
+        ) -> u16;
+        pub fn nd110_load(
+            state: *mut u16,
+            state_len: usize,
+            image: *const u16,
+            image_len: usize,
+            memory: *mut u16,
+            memory_len: usize,
+            tables: *mut u16,
+            tables_len: usize,
+        ) -> u16;
+        pub fn nd110_write(
+            state: *const u16,
+            state_len: usize,
+            memory: *const u16,
+            memory_len: usize,
+            tables: *const u16,
+            tables_len: usize,
+            out: *mut u16,
+            out_len: usize,
+        ) -> u16;
+        pub fn nd110_view(
+            kind: u16,
+            start: usize,
+            len: usize,
+            memory: *const u16,
+            memory_len: usize,
+            tables: *const u16,
+            tables_len: usize,
+            out: *mut u16,
+            out_len: usize,
+        ) -> u16;
+        pub fn nd110_view_answer(
+            kind: u16,
+            start: usize,
+            len: usize,
+            memory: *const u16,
+            memory_len: usize,
+            tables: *const u16,
+            tables_len: usize,
+        ) -> u16;
+    }
+}
+
+// SAFETY of every call below: the places and lengths are those of slices, which are valid, and apart where one is
+// written; the library is proved to stay within them.
+
+pub fn step(state: &mut [u16], memory: &mut [u16], tables: &mut [u16], interrupt: &mut u16) -> u16 {
+    unsafe {
+        raw::nd110_step(
+            state.as_mut_ptr(),
+            state.len(),
+            memory.as_mut_ptr(),
+            memory.len(),
+            tables.as_mut_ptr(),
+            tables.len(),
+            interrupt,
+        )
+    }
+}
+
+pub fn run(
+    state: &mut [u16],
+    memory: &mut [u16],
+    tables: &mut [u16],
+    n: u64,
+    steps: &mut u64,
+    reason: &mut u16,
+) -> u16 {
+    unsafe {
+        raw::nd110_run(
+            state.as_mut_ptr(),
+            state.len(),
+            memory.as_mut_ptr(),
+            memory.len(),
+            tables.as_mut_ptr(),
+            tables.len(),
+            n,
+            steps,
+            reason,
+        )
+    }
+}
+
+pub fn run_to_interrupt(
+    state: &mut [u16],
+    memory: &mut [u16],
+    tables: &mut [u16],
+    n: u64,
+    steps: &mut u64,
+    reason: &mut u16,
+) -> u16 {
+    unsafe {
+        raw::nd110_run_to_interrupt(
+            state.as_mut_ptr(),
+            state.len(),
+            memory.as_mut_ptr(),
+            memory.len(),
+            tables.as_mut_ptr(),
+            tables.len(),
+            n,
+            steps,
+            reason,
+        )
+    }
+}
+
+pub fn raise(state: &mut [u16], level: u16, memory: &[u16], tables: &[u16]) -> u16 {
+    unsafe {
+        raw::nd110_raise(
+            state.as_mut_ptr(),
+            state.len(),
+            level,
+            memory.as_ptr(),
+            memory.len(),
+            tables.as_ptr(),
+            tables.len(),
+        )
+    }
+}
+
+pub fn load(state: &mut [u16], image: &[u16], memory: &mut [u16], tables: &mut [u16]) -> u16 {
+    unsafe {
+        raw::nd110_load(
+            state.as_mut_ptr(),
+            state.len(),
+            image.as_ptr(),
+            image.len(),
+            memory.as_mut_ptr(),
+            memory.len(),
+            tables.as_mut_ptr(),
+            tables.len(),
+        )
+    }
+}
+
+pub fn write(state: &[u16], memory: &[u16], tables: &[u16], out: &mut [u16]) -> u16 {
+    unsafe {
+        raw::nd110_write(
+            state.as_ptr(),
+            state.len(),
+            memory.as_ptr(),
+            memory.len(),
+            tables.as_ptr(),
+            tables.len(),
+            out.as_mut_ptr(),
+            out.len(),
+        )
+    }
+}
+
+pub fn view(
+    kind: u16,
+    start: usize,
+    len: usize,
+    memory: &[u16],
+    tables: &[u16],
+    out: &mut [u16],
+) -> u16 {
+    unsafe {
+        raw::nd110_view(
+            kind,
+            start,
+            len,
+            memory.as_ptr(),
+            memory.len(),
+            tables.as_ptr(),
+            tables.len(),
+            out.as_mut_ptr(),
+            out.len(),
+        )
+    }
+}
+
+pub fn view_answer(kind: u16, start: usize, len: usize, memory: &[u16], tables: &[u16]) -> u16 {
+    unsafe {
+        raw::nd110_view_answer(
+            kind,
+            start,
+            len,
+            memory.as_ptr(),
+            memory.len(),
+            tables.as_ptr(),
+            tables.len(),
+        )
+    }
+}

@@ -1,0 +1,163 @@
+//! The numbers that a host and the library share. `tests/header.rs` holds them to include/nd110.h.
+
+use std::error::Error;
+use std::fmt;
+
+/// The version of the interface.
+pub const VERSION: usize = 2;
+
+/// Words of a state in image order: 128 registers, then 26 control words.
+pub const STATE_WORDS: usize = 154;
+/// Words of lent page tables.
+pub const TABLE_WORDS: usize = 256;
+/// Words of a page: lent memory is a whole number of pages.
+pub const PAGE_WORDS: usize = 1024;
+/// Most words of lent memory.
+pub const MEMORY_MOST: usize = 524_288;
+/// Words of a written image beside memory.
+pub const IMAGE_EXTRA: usize = 431;
+
+/// Why an operation refused. A refused call changes nothing.
+#[derive(Clone, Copy, Debug, PartialEq, Eq)]
+#[repr(u16)]
+#[non_exhaustive]
+pub enum Refusal {
+    /// Memory or page tables of another size.
+    Sizes = 1,
+    /// A state out of its ranges.
+    State = 2,
+    /// Raise of a level other than 10 to 13 and 15.
+    RaiseLevel = 3,
+    /// Image contents short or over 32 entries.
+    Contents = 4,
+    /// Image entry of unknown kind.
+    Kind = 5,
+    /// Image entry beyond its target's size.
+    Target = 6,
+    /// Image entry that covers a word already named.
+    Overlap = 7,
+    /// Bodies other than exactly the rest of the image.
+    Bodies = 8,
+    /// View beyond its target's size.
+    View = 9,
+    /// Output too short for the image.
+    Output = 10,
+    /// A call that is no operation of document 01: of what the types here leave, a view into too few words.
+    BadCall = 255,
+}
+
+impl Refusal {
+    /// Every refusal, numbers rising.
+    pub const ALL: &[Refusal] = &[
+        Refusal::Sizes,
+        Refusal::State,
+        Refusal::RaiseLevel,
+        Refusal::Contents,
+        Refusal::Kind,
+        Refusal::Target,
+        Refusal::Overlap,
+        Refusal::Bodies,
+        Refusal::View,
+        Refusal::Output,
+        Refusal::BadCall,
+    ];
+
+    /// Document 01's number, or 255.
+    pub fn number(self) -> u16 {
+        self as u16
+    }
+}
+
+impl fmt::Display for Refusal {
+    fn fmt(&self, f: &mut fmt::Formatter<'_>) -> fmt::Result {
+        let why = match self {
+            Refusal::Sizes => "memory or page tables of another size",
+            Refusal::State => "a state out of its ranges",
+            Refusal::RaiseLevel => "raise of a level other than 10 to 13 and 15",
+            Refusal::Contents => "the image's contents are short or have over 32 entries",
+            Refusal::Kind => "an image entry of unknown kind",
+            Refusal::Target => "an image entry beyond its target's size",
+            Refusal::Overlap => "an image entry that covers a word already named",
+            Refusal::Bodies => "the image's bodies are not exactly the rest of it",
+            Refusal::View => "a view beyond its target's size",
+            Refusal::Output => "too few words of output for the image",
+            Refusal::BadCall => "a call that is no operation",
+        };
+        write!(f, "refused {}: {why}", self.number())
+    }
+}
+
+impl Error for Refusal {}
+
+/// Why a run ended.
+#[derive(Clone, Copy, Debug, PartialEq, Eq)]
+#[repr(u16)]
+pub enum Reason {
+    /// The machine is stopped.
+    Stopped = 0,
+    /// A change of level is due (to the first interrupt only).
+    Level = 1,
+    /// As many steps as asked were taken.
+    Spent = 2,
+    /// The last step gave an interrupt (to the first interrupt only).
+    Interrupt = 3,
+}
+
+impl Reason {
+    /// Every reason, numbers rising.
+    pub const ALL: [Reason; 4] = [
+        Reason::Stopped,
+        Reason::Level,
+        Reason::Spent,
+        Reason::Interrupt,
+    ];
+
+    pub fn number(self) -> u16 {
+        self as u16
+    }
+}
+
+/// What a view is of, by the number of an image's kind.
+#[derive(Clone, Copy, Debug, PartialEq, Eq)]
+#[repr(u16)]
+pub enum Target {
+    Memory = 1,
+    Tables = 4,
+}
+
+impl Target {
+    pub fn number(self) -> u16 {
+        self as u16
+    }
+}
+
+/// A register of a level.
+#[derive(Clone, Copy, Debug, PartialEq, Eq)]
+pub enum Register {
+    Sts,
+    D,
+    P,
+    B,
+    L,
+    A,
+    T,
+    X,
+}
+
+/// A control word; the PCRs of the sixteen levels follow.
+#[derive(Clone, Copy, Debug, PartialEq, Eq)]
+pub enum Control {
+    Level,
+    InterruptsOn,
+    PagingOn,
+    Stopped,
+    Pid,
+    Pie,
+    Pvl,
+    Iid,
+    Iie,
+    Pgs,
+}
+
+/// The control word that is the PCR of level 0.
+pub const PCR: usize = 10;

@@ -1,0 +1,293 @@
+//! Every function of this crate called through the archive, with arguments that cannot be taken for one another. What
+//! must come is written by hand from document 01. tests/calls.c is the same through the C header.
+
+use nd110::{
+    IMAGE_EXTRA, PAGE_WORDS, Reason, Refusal, STATE_WORDS, State, TABLE_WORDS, Target, image_words,
+    load, raise, run, run_to_interrupt, step, view, view_into, write,
+};
+
+const MEMORY: usize = 2 * PAGE_WORDS;
+const FILLED: u16 = 0o125252;
+
+/// SAA 5; AAA 3; MON 7; a word that is no instruction; WAIT; and a word that is not executed.
+const PROGRAM: [u16; 6] = [0o170405, 0o172403, 0o153007, 0o160000, 0o151000, 0o123456];
+
+/// Five entries (kind, start, length), then the bodies: the program; A of level 2; PIE; IIE, which has interrupt 4;
+/// two page table words.
+const IMAGE: [u16; 37] = [
+    5, //
+    1, 0, 0, 0, 6, //
+    2, 0, 21, 0, 1, //
+    3, 0, 5, 0, 1, //
+    3, 0, 8, 0, 1, //
+    4, 0, 3, 0, 2, //
+    0o170405, 0o172403, 0o153007, 0o160000, 0o151000, 0o123456, //
+    0o000321, //
+    0o010000, //
+    0o000020, //
+    0o111111, 0o022222,
+];
+
+// State words: registers at 8 * level + number, control words from 128 on.
+const P_0: usize = 2;
+const A_0: usize = 5;
+const A_2: usize = 21;
+const T_14: usize = 118;
+const LEVEL: usize = 128;
+const ION: usize = 129;
+const STOPPED: usize = 131;
+const PID: usize = 132;
+const PIE: usize = 133;
+const IID: usize = 135;
+const IIE: usize = 136;
+
+#[derive(Clone, Debug, PartialEq)]
+struct Machine {
+    state: State,
+    memory: Vec<u16>,
+    tables: Vec<u16>,
+}
+
+/// Words that are all 0 but for those named.
+fn words(len: usize, named: &[(usize, u16)]) -> Vec<u16> {
+    let mut words = vec![0; len];
+    for &(at, word) in named {
+        words[at] = word;
+    }
+    words
+}
+
+impl Machine {
+    fn loaded() -> Machine {
+        let (mut memory, mut tables) = (vec![FILLED; MEMORY], vec![FILLED; TABLE_WORDS]);
+        let state = load(&IMAGE, &mut memory, &mut tables).unwrap();
+        let machine = Machine {
+            state,
+            memory,
+            tables,
+        };
+        machine.is(&[(A_2, 0o321), (PIE, 0o10000), (IIE, 0o20)]);
+        machine
+    }
+
+    /// SAA 5, by one step.
+    fn stepped() -> Machine {
+        let mut m = Machine::loaded();
+        assert_eq!(m.step(), Ok(0));
+        m.is(&[
+            (A_0, 5),
+            (P_0, 1),
+            (A_2, 0o321),
+            (PIE, 0o10000),
+            (IIE, 0o20),
+        ]);
+        m
+    }
+
+    /// The state has these words; memory and page tables are the image's.
+    fn is(&self, named: &[(usize, u16)]) {
+        assert_eq!(self.state.0[..], words(STATE_WORDS, named));
+        assert_eq!(self.memory[..6], PROGRAM);
+        assert_eq!(self.memory[6..], words(MEMORY - 6, &[]));
+        assert_eq!(
+            self.tables,
+            words(TABLE_WORDS, &[(3, 0o111111), (4, 0o022222)])
+        );
+    }
+
+    fn step(&mut self) -> Result<u16, Refusal> {
+        step(&mut self.state, &mut self.memory, &mut self.tables)
+    }
+
+    fn run(&mut self, steps: u64) -> Result<(u64, Reason), Refusal> {
+        run(&mut self.state, &mut self.memory, &mut self.tables, steps)
+    }
+
+    fn run_to_interrupt(&mut self, steps: u64) -> Result<(u64, Reason), Refusal> {
+        run_to_interrupt(&mut self.state, &mut self.memory, &mut self.tables, steps)
+    }
+
+    fn raise(&mut self, level: u16) -> Result<(), Refusal> {
+        raise(&mut self.state, level, &self.memory, &self.tables)
+    }
+
+    fn write(&self, out: &mut [u16]) -> Result<(), Refusal> {
+        write(&self.state, &self.memory, &self.tables, out)
+    }
+
+    fn view(&self, target: Target, start: usize, len: usize) -> Result<&[u16], Refusal> {
+        view(target, start, len, &self.memory, &self.tables)
+    }
+
+    /// All its operations on it.
+    fn refuses_all(&mut self, refusal: Refusal) {
+        let was = self.clone();
+        assert_eq!(self.step(), Err(refusal));
+        assert_eq!(self.run(10), Err(refusal));
+        assert_eq!(self.run_to_interrupt(10), Err(refusal));
+        assert_eq!(self.raise(10), Err(refusal));
+        let mut out = vec![FILLED; self.memory.len() + IMAGE_EXTRA];
+        assert_eq!(self.write(&mut out), Err(refusal));
+        assert!(out.iter().all(|word| *word == FILLED));
+        assert_eq!(*self, was);
+    }
+}
+
+/// AAA 3, MON 7 (its number to T of level 14, interrupt 1 to IID alone), the illegal word (interrupt 4, which IIE
+/// has: PID bit 14) and WAIT, which stops with interrupts off.
+#[test]
+fn through() {
+    let mut m = Machine::stepped();
+    assert_eq!(m.run(3), Ok((3, Reason::Spent)));
+    assert_eq!(m.run(10), Ok((1, Reason::Stopped)));
+    m.is(&[
+        (A_0, 0o10),
+        (P_0, 5),
+        (A_2, 0o321),
+        (T_14, 7),
+        (STOPPED, 1),
+        (PID, 0o40000),
+        (PIE, 0o10000),
+        (IID, 0o22),
+        (IIE, 0o20),
+    ]);
+}
+
+/// AAA 3 and MON 7, which ends it; a device's level 11; the illegal word by a step; a change to level 14, which is due.
+#[test]
+fn to_interrupt() {
+    let mut m = Machine::stepped();
+    assert_eq!(m.run_to_interrupt(10), Ok((2, Reason::Interrupt)));
+    let (p, iid, ion) = ((P_0, 3), (IID, 2), (ION, 1));
+    let (a, a_2, t_14, iie) = ((A_0, 0o10), (A_2, 0o321), (T_14, 7), (IIE, 0o20));
+    m.is(&[a, p, a_2, t_14, (PIE, 0o10000), iid, iie]);
+    assert_eq!(m.raise(11), Ok(()));
+    m.is(&[a, p, a_2, t_14, (PID, 0o4000), (PIE, 0o10000), iid, iie]);
+    assert_eq!(m.step(), Ok(4));
+    let (p, iid, pid, pie) = ((P_0, 4), (IID, 0o22), (PID, 0o44000), (PIE, 0o50000));
+    m.is(&[a, p, a_2, t_14, pid, (PIE, 0o10000), iid, iie]);
+    m.state.0[ION] = 1;
+    m.state.0[PIE] = 0o50000;
+    assert_eq!(m.run_to_interrupt(10), Ok((0, Reason::Level)));
+    m.is(&[a, p, a_2, t_14, ion, pid, pie, iid, iie]);
+    assert_eq!(m.run(1), Ok((1, Reason::Spent)));
+    m.is(&[a, p, a_2, t_14, (LEVEL, 14), ion, pid, pie, iid, iie]);
+}
+
+#[test]
+fn viewed() {
+    let m = Machine::loaded();
+    assert_eq!(m.view(Target::Memory, 2, 3).unwrap(), &PROGRAM[2..5]);
+    assert_eq!(m.view(Target::Tables, 3, 2).unwrap(), [0o111111, 0o022222]);
+    assert_eq!(m.view(Target::Tables, 256, 0).unwrap(), []);
+    assert_eq!(m.view(Target::Tables, 1, 256), Err(Refusal::View));
+    assert_eq!(m.view(Target::Memory, 1, 256).unwrap().len(), 256);
+    assert_eq!(m.view(Target::Memory, usize::MAX, 2), Err(Refusal::View));
+    let mut out = [FILLED; 4];
+    let mut into = |target, start, len, room: usize| {
+        let answer = view_into(target, start, len, &m.memory, &m.tables, &mut out[..room]);
+        (answer, out)
+    };
+    let memory = [0o153007, 0o160000, 0o151000, FILLED];
+    let tables = [0o111111, 0o022222, 0o151000, FILLED];
+    assert_eq!(into(Target::Memory, 2, 3, 4), (Ok(()), memory));
+    assert_eq!(into(Target::Tables, 3, 2, 2), (Ok(()), tables));
+    assert_eq!(
+        into(Target::Memory, 0, 2, 1),
+        (Err(Refusal::BadCall), tables)
+    );
+    assert_eq!(
+        into(Target::Tables, 255, 2, 4),
+        (Err(Refusal::View), tables)
+    );
+    assert_eq!(
+        into(Target::Memory, usize::MAX, 1, 4),
+        (Err(Refusal::View), tables)
+    );
+}
+
+/// Four full entries and their bodies; then loaded again, over other contents.
+#[test]
+fn written() {
+    let m = Machine::stepped();
+    let mut out = vec![FILLED; MEMORY + IMAGE_EXTRA + 1];
+    assert_eq!(m.write(&mut out), Ok(()));
+    let contents = [
+        4, 1, 0, 0, 0, 2048, 2, 0, 0, 0, 128, 3, 0, 0, 0, 26, 4, 0, 0, 0, 256,
+    ];
+    assert_eq!(out[..21], contents);
+    assert_eq!(out[21..2069], m.memory);
+    assert_eq!(out[2069..2223], m.state.0);
+    assert_eq!(out[2223..2479], m.tables);
+    assert_eq!(out[2479], FILLED);
+    let (mut memory, mut tables) = (vec![FILLED; MEMORY], vec![FILLED; TABLE_WORDS]);
+    let state = load(&out[..2479], &mut memory, &mut tables).unwrap();
+    let again = Machine {
+        state,
+        memory,
+        tables,
+    };
+    assert_eq!(again, m);
+}
+
+#[test]
+fn refused() {
+    let loaded = Machine::loaded();
+    for (memory, tables) in [(0, 256), (2047, 256), (525_312, 256), (2048, 255)] {
+        let mut m = loaded.clone();
+        m.memory = vec![0; memory];
+        m.tables = vec![0; tables];
+        m.refuses_all(Refusal::Sizes);
+        assert_eq!(m.view(Target::Memory, 0, 0), Err(Refusal::Sizes));
+        let again = load(&IMAGE, &mut m.memory, &mut m.tables);
+        assert_eq!(again, Err(Refusal::Sizes));
+    }
+    let mut m = loaded.clone();
+    m.state.0[0] = 0o400;
+    m.refuses_all(Refusal::State);
+    let mut m = loaded.clone();
+    for level in [0, 9, 14, 16] {
+        assert_eq!(m.raise(level), Err(Refusal::RaiseLevel));
+    }
+    let mut out = [FILLED; MEMORY + IMAGE_EXTRA - 1];
+    assert_eq!(m.write(&mut out), Err(Refusal::Output));
+    assert!(out.iter().all(|word| *word == FILLED));
+    let images: [(&[u16], Refusal); 9] = [
+        (&[], Refusal::Contents),
+        (&IMAGE[..25], Refusal::Contents),
+        (&[33], Refusal::Contents),
+        (&[1, 5, 0, 0, 0, 0], Refusal::Kind),
+        (&[1, 4, 0, 256, 0, 1, 0], Refusal::Target),
+        (
+            &[2, 1, 0, 0, 0, 2, 1, 0, 1, 0, 1, 0, 0, 0],
+            Refusal::Overlap,
+        ),
+        (&IMAGE[..36], Refusal::Bodies),
+        (&[0, 0], Refusal::Bodies),
+        (&[1, 2, 0, 0, 0, 1, 0o400], Refusal::State),
+    ];
+    for (image, refusal) in images {
+        assert_eq!(load(image, &mut m.memory, &mut m.tables), Err(refusal));
+    }
+    assert_eq!(m, loaded);
+}
+
+#[test]
+fn refusals_tell_why() {
+    let refusal: Box<dyn std::error::Error> = Box::new(Refusal::BadCall);
+    assert_eq!(
+        refusal.to_string(),
+        "refused 255: a call that is no operation"
+    );
+    for refusal in Refusal::ALL {
+        let start = format!("refused {}: ", refusal.number());
+        assert!(refusal.to_string().starts_with(&start));
+    }
+}
+
+#[test]
+fn bytes_of_an_image() {
+    assert_eq!(image_words(&[1, 2, 0o377, 0]), Ok(vec![0x0102, 0o177400]));
+    assert_eq!(image_words(&[]), Ok(vec![]));
+    assert_eq!(image_words(&[1, 2, 3]), Err(Refusal::Bodies));
+}

@@ -1,0 +1,18 @@
+//! The manuals' worked examples through the archive, by the tables of crate `manual`: the proved engine is held to the
+//! manuals themselves, with no other engine between.
+
+use manual::Machine;
+use nd110::{State, step};
+
+fn proved_step(machine: &mut Machine) {
+    let mut state = State(machine.state);
+    let interrupt = step(&mut state, &mut machine.memory, &mut machine.tables);
+    machine.interrupt = interrupt.expect("in range");
+    machine.state = state.0;
+}
+
+#[test]
+fn examples() {
+    let lines = manual::differences(proved_step);
+    assert!(lines.is_empty(), "{}", lines.join("\n"));
+}

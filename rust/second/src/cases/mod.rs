@@ -1,0 +1,350 @@
+//! Cases of every operation for the proved engine: `crates/check_*` run them,
+//! and their stored answers are this engine's. `NOTES.md` has the format.
+
+mod images;
+mod instructions;
+mod pages;
+mod runs;
+mod system;
+mod words;
+
+use crate::answer::{Interrupt, Reason, Refusal};
+use crate::decode::Reg;
+use crate::image::{Target, load, view, view_number, write};
+use crate::state::{REGISTER_WORDS, STATE_WORDS, State};
+use crate::step::{raise, run, step};
+use crate::{PAGE, TABLE_WORDS};
+use std::fmt::Write;
+
+/// Lists of cases, by name.
+type Group = (&'static str, fn() -> Vec<Case>);
+
+/// The programs `crates/check_NAME`, each with its groups of cases.
+pub const PROGRAMS: [(&str, &[Group]); 3] = [
+    (
+        "instructions",
+        &[("unprivileged instructions", instructions::cases)],
+    ),
+    (
+        "machine",
+        &[("pages", pages::cases), ("system", system::cases)],
+    ),
+    (
+        "operations",
+        &[
+            ("runs", runs::cases),
+            ("images", images::cases),
+            ("words", words::cases),
+        ],
+    ),
+];
+
+#[derive(Clone, Debug)]
+pub enum Operation {
+    Step,
+    Through(u64),
+    ToInterrupt(u64),
+    Raise(u16),
+    Load(Vec<u16>),
+    /// Into so many words of output.
+    Write(usize),
+    View(Target, usize, usize),
+    /// Into so many words of output, then loaded over other contents.
+    WriteLoad(usize),
+}
+
+/// The level that runs in the base machine.
+pub const LEVEL: usize = 3;
+/// Memory of the base machine.
+pub const MEMORY: usize = 4 * PAGE;
+
+/// A start and an operation. The label has no digit.
+#[derive(Clone, Debug)]
+pub struct Case {
+    label: &'static str,
+    pub operation: Operation,
+    pub state: State,
+    pub memory: Vec<u16>,
+    pub tables: Vec<u16>,
+}
+
+/// A word that tells its index.
+fn pattern(index: usize) -> u16 {
+    (index % 1_048_576 * 40_503 % 65_521) as u16
+}
+
+/// Registers and control words of the base machine.
+fn base_state() -> [u16; STATE_WORDS] {
+    let mut words = [0; STATE_WORDS];
+    for (index, word) in words.iter_mut().enumerate() {
+        *word = match index {
+            0..=127 if index % 8 == 0 => (index * 3 % 256 / 2 * 2) as u16,
+            0..=127 => pattern(index + 7),
+            _ => ((index + 2) % 4 * 512 + (index + 3) % 4 * 128 + 2) as u16,
+        };
+    }
+    words[128..138].copy_from_slice(&[LEVEL as u16, 1, 1, 0, 8, 0o177777, 5, 0, 0o3776, 0]);
+    words
+}
+
+fn base_memory(size: usize) -> Vec<u16> {
+    (0..size).map(pattern).collect()
+}
+
+/// Every access permitted to ring 2; pages in another order in each table.
+fn base_tables(size: usize, memory: usize) -> Vec<u16> {
+    let entry = |index: usize| match memory / PAGE {
+        0 => 0,
+        pages => (0o162000 + (index % 64 + index / 64 % 4) % pages % 512) as u16,
+    };
+    (0..size).map(entry).collect()
+}
+
+impl Case {
+    /// The base machine with lent words of other sizes.
+    pub fn sized(label: &'static str, operation: Operation, memory: usize, tables: usize) -> Case {
+        Case {
+            label,
+            operation,
+            state: State::from_words(&base_state()),
+            memory: base_memory(memory),
+            tables: base_tables(tables, memory),
+        }
+    }
+
+    pub fn new(label: &'static str, operation: Operation) -> Case {
+        Case::sized(label, operation, MEMORY, TABLE_WORDS)
+    }
+
+    /// One step; `at_p` puts its word.
+    pub fn step(label: &'static str) -> Case {
+        Case::new(label, Operation::Step)
+    }
+
+    fn level(&self) -> usize {
+        usize::from(self.state.level % 16)
+    }
+
+    pub fn get(&self, reg: Reg) -> u16 {
+        self.state.files[self.level()][reg as usize]
+    }
+
+    pub fn reg(mut self, reg: Reg, value: u16) -> Case {
+        let level = self.level();
+        self.state.files[level][reg as usize] = value;
+        self
+    }
+
+    pub fn of_level(mut self, level: usize, reg: Reg, value: u16) -> Case {
+        self.state.files[level][reg as usize] = value;
+        self
+    }
+
+    pub fn with(mut self, change: impl FnOnce(&mut State)) -> Case {
+        change(&mut self.state);
+        self
+    }
+
+    /// The running level, with PID so that no change is due.
+    pub fn on_level(self, level: usize) -> Case {
+        self.with(|state| {
+            state.level = level as u16;
+            state.pid = 1 << level;
+        })
+    }
+
+    pub fn ring(mut self, ring: u16) -> Case {
+        let level = self.level();
+        self.state.pcr[level] = self.state.pcr[level] & !3 | ring;
+        self
+    }
+
+    pub fn paging(self, on: bool) -> Case {
+        self.with(|state| state.paging_on = on.into())
+    }
+
+    pub fn word(mut self, at: usize, value: u16) -> Case {
+        self.memory[at] = value;
+        self
+    }
+
+    pub fn entry(mut self, index: usize, value: u16) -> Case {
+        self.tables[index] = value;
+        self
+    }
+
+    /// The number of the normal or the alternate table.
+    pub fn table(&self, alternate: bool) -> usize {
+        let pcr = self.state.pcr[self.level()];
+        usize::from(if alternate {
+            pcr >> 7 & 3
+        } else {
+            pcr >> 9 & 3
+        })
+    }
+
+    /// Index of the entry that an address goes by.
+    pub fn index(&self, address: u16, alternate: bool) -> usize {
+        self.table(alternate) * 64 + usize::from(address >> 10)
+    }
+
+    /// Puts a word where an address leads, if it leads somewhere.
+    pub fn put(mut self, address: u16, alternate: bool, value: u16) -> Case {
+        let paging = self.state.paging_on == 1;
+        let ring = self.state.pcr[self.level()] & 3;
+        if address >= 0o177400 && (!paging || ring == 3) {
+            self.tables[usize::from(address & 0o377)] = value;
+            return self;
+        }
+        let at = if paging {
+            let entry = self.tables[self.index(address, alternate)];
+            usize::from(entry & 0o777) * PAGE + usize::from(address) % PAGE
+        } else {
+            usize::from(address)
+        };
+        if let Some(place) = self.memory.get_mut(at) {
+            *place = value;
+        }
+        self
+    }
+
+    /// Puts the word that the step fetches.
+    pub fn at_p(self, word: u16) -> Case {
+        let p = self.get(Reg::P);
+        self.put(p, false, word)
+    }
+
+    /// Number and arguments of the operation.
+    fn arguments(&self) -> (u64, Vec<u64>) {
+        match &self.operation {
+            Operation::Step => (0, vec![]),
+            Operation::Through(steps) => (1, vec![*steps]),
+            Operation::ToInterrupt(steps) => (2, vec![*steps]),
+            Operation::Raise(level) => (3, vec![u64::from(*level)]),
+            Operation::Load(image) => (4, image.iter().map(|&word| word.into()).collect()),
+            Operation::Write(length) => (5, vec![*length as u64]),
+            Operation::View(target, start, length) => {
+                let kind = (*target == Target::Tables).into();
+                (6, vec![kind, *start as u64, *length as u64])
+            }
+            Operation::WriteLoad(length) => (7, vec![*length as u64]),
+        }
+    }
+
+    /// The case's line: label, count, operation, sizes, arguments, changes.
+    pub fn line(&self) -> String {
+        let (number, arguments) = self.arguments();
+        let sizes = [self.memory.len() as u64, self.tables.len() as u64];
+        let mut numbers = vec![number, sizes[0], sizes[1], arguments.len() as u64];
+        numbers.extend(arguments);
+        let mut change = |place: usize, words: &[u16], base: &[u16]| {
+            for (index, (word, old)) in words.iter().zip(base).enumerate() {
+                if word != old {
+                    numbers.extend([(place + index) as u64, u64::from(*word)]);
+                }
+            }
+        };
+        change(0, &self.state.to_words(), &base_state());
+        change(
+            512,
+            &self.tables,
+            &base_tables(self.tables.len(), self.memory.len()),
+        );
+        change(1024, &self.memory, &base_memory(self.memory.len()));
+        let mut text = format!("{} {:o}", self.label, numbers.len());
+        for number in numbers {
+            let _ = write!(text, " {number:o}");
+        }
+        text
+    }
+
+    /// The answer's line.
+    pub fn answer(&self) -> String {
+        let mut end = self.clone();
+        let (refusal, first, second) = end.act();
+        let words = end.state.to_words();
+        let mut text = format!("{refusal} {first} {second}");
+        let parts: [&[u16]; 4] = [
+            &words[..REGISTER_WORDS],
+            &words[REGISTER_WORDS..],
+            &end.tables,
+            &end.memory,
+        ];
+        for part in parts {
+            let _ = write!(text, " {:08x}", sum(part));
+        }
+        let _ = write!(text, " {}", end.state.level);
+        for word in end.state.files[end.level()] {
+            let _ = write!(text, " {word:06o}");
+        }
+        text
+    }
+
+    /// Does the operation: the refusal's number or 0, and two more numbers.
+    fn act(&mut self) -> (u16, u64, u64) {
+        let (state, memory, tables) = (&mut self.state, &mut self.memory, &mut self.tables);
+        let refused = |refusal: Refusal| (refusal.number(), 0, 0);
+        match &self.operation {
+            Operation::Step => step(state, memory, tables).map_or_else(refused, |interrupt| {
+                (0, interrupt.map_or(0, Interrupt::number).into(), 0)
+            }),
+            Operation::Through(steps) => {
+                run(state, memory, tables, *steps, false).map_or_else(refused, ended)
+            }
+            Operation::ToInterrupt(steps) => {
+                run(state, memory, tables, *steps, true).map_or_else(refused, ended)
+            }
+            Operation::Raise(level) => {
+                raise(state, memory, tables, *level).map_or_else(refused, |()| (0, 0, 0))
+            }
+            Operation::Load(image) => load(image, memory, tables).map_or_else(refused, |loaded| {
+                *state = loaded;
+                (0, 0, 0)
+            }),
+            Operation::Write(length) => {
+                let mut out = base_memory(*length);
+                let answer = write(state, memory, tables, &mut out);
+                (number(answer.err()), sum(&out), 0)
+            }
+            Operation::View(target, start, length) => {
+                let refusal = view_number(memory, tables, *target, *start, *length);
+                let part = view(memory, tables, *target, *start, *length);
+                (number(refusal), part.len() as u64, sum(part))
+            }
+            Operation::WriteLoad(length) => {
+                let mut out = base_memory(*length);
+                let written = write(state, memory, tables, &mut out).err();
+                *memory = base_tables(memory.len(), PAGE);
+                *tables = base_memory(tables.len());
+                *state = State::new();
+                let loaded = load(&out, memory, tables);
+                let refusal = number(loaded.as_ref().err().copied());
+                if let Ok(loaded) = loaded {
+                    *state = loaded;
+                }
+                (refusal, sum(&out), number(written).into())
+            }
+        }
+    }
+}
+
+fn number(refusal: Option<Refusal>) -> u16 {
+    refusal.map_or(0, Refusal::number)
+}
+
+/// Reasons in the order of the tests, then the steps.
+fn ended((steps, reason): (u64, Reason)) -> (u16, u64, u64) {
+    let reason = match reason {
+        Reason::Stopped => 0,
+        Reason::Level => 1,
+        Reason::Spent => 2,
+        Reason::Interrupt => 3,
+    };
+    (0, reason, steps)
+}
+
+/// Checksum of words: each counts by its place.
+fn sum(words: &[u16]) -> u64 {
+    let add = |sum: u64, &word: &u16| (sum * 1_000_003 + u64::from(word) + 1) % 4_294_967_291;
+    words.iter().fold(1, add)
+}

@@ -1,0 +1,38 @@
+//! Second engine for the ND-110 of the park master.
+//!
+//! Written from document 01, the rulings, document 002 (instruction set) and
+//! document 000 (paging and interrupts). `NOTES.md` lists the choices where
+//! these leave something open.
+
+mod address;
+mod answer;
+mod arithmetic;
+pub mod cases;
+mod decode;
+mod disasm;
+mod execute;
+mod image;
+mod machine;
+mod paging;
+pub mod random;
+mod state;
+mod step;
+mod system;
+pub mod vectors;
+
+pub use answer::{Interrupt, Reason, Refusal};
+pub use decode::{
+    AddOne, BitOp, Instr, JumpCond, Logic, MemOp, Mode, Reg, ShiftKind, ShiftReg, SkipCond,
+    Transfer, decode,
+};
+pub use disasm::disassemble;
+pub use image::{IMAGE_EXTRA, Target, load, view, view_number, write};
+pub use state::{CONTROL_WORDS, REGISTER_WORDS, STATE_WORDS, State, flag};
+pub use step::{next_word, raise, run, step};
+
+/// Words in a page.
+pub const PAGE: usize = 1024;
+/// Most words of lent memory.
+pub const MAX_MEMORY: usize = 524_288;
+/// Words of lent page tables: four tables of 64 entries.
+pub const TABLE_WORDS: usize = 256;

@@ -1,0 +1,81 @@
+//! A state together with the lent memory and page tables, for one operation.
+
+use crate::answer::Refusal;
+use crate::decode::Reg;
+use crate::state::{State, flag};
+use crate::{MAX_MEMORY, PAGE, TABLE_WORDS};
+
+pub(crate) struct Machine<'a> {
+    pub state: &'a mut State,
+    pub memory: &'a mut [u16],
+    pub tables: &'a mut [u16; TABLE_WORDS],
+}
+
+/// Refusal 1: memory or tables of another size than document 01 gives.
+pub(crate) fn check_sizes(memory: &[u16], tables: &[u16]) -> Result<(), Refusal> {
+    let pages = memory.len().is_multiple_of(PAGE) && (PAGE..=MAX_MEMORY).contains(&memory.len());
+    if pages && tables.len() == TABLE_WORDS {
+        Ok(())
+    } else {
+        Err(Refusal::Size)
+    }
+}
+
+impl<'a> Machine<'a> {
+    /// Refusals 1 and 2 of step and run.
+    pub fn new(
+        state: &'a mut State,
+        memory: &'a mut [u16],
+        tables: &'a mut [u16],
+    ) -> Result<Machine<'a>, Refusal> {
+        check_sizes(memory, tables)?;
+        let tables = tables.try_into().map_err(|_| Refusal::Size)?;
+        if !state.in_range() {
+            return Err(Refusal::State);
+        }
+        Ok(Machine {
+            state,
+            memory,
+            tables,
+        })
+    }
+
+    pub fn get(&self, reg: Reg) -> u16 {
+        self.state.reg(reg)
+    }
+
+    pub fn set(&mut self, reg: Reg, value: u16) {
+        self.state.set_reg(reg, value);
+    }
+
+    /// Register as an operand: number 0 is the value 0, not STS.
+    pub fn operand(&self, reg: Reg) -> u16 {
+        match reg {
+            Reg::Sts => 0,
+            reg => self.get(reg),
+        }
+    }
+
+    pub fn flag(&self, flag: u16) -> bool {
+        self.get(Reg::Sts) & flag != 0
+    }
+
+    pub fn set_flag(&mut self, flag: u16, on: bool) {
+        let sts = self.get(Reg::Sts);
+        self.set(Reg::Sts, if on { sts | flag } else { sts & !flag });
+    }
+
+    /// O as given; Q is set with it and stays otherwise.
+    pub fn set_overflow(&mut self, overflow: bool) {
+        self.set_flag(flag::O, overflow);
+        if overflow {
+            self.set_flag(flag::Q, true);
+        }
+    }
+
+    /// P one further: the next instruction is skipped.
+    pub fn skip(&mut self) {
+        let p = self.get(Reg::P);
+        self.set(Reg::P, p.wrapping_add(1));
+    }
+}

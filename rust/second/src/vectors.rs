@@ -1,0 +1,410 @@
+//! Random cases of one step, for evaluating other implementations.
+
+use crate::answer::Interrupt;
+use crate::decode::{Instr, Reg, decode};
+use crate::random::Random;
+use crate::state::{INTERNAL_BITS, PCR_BITS, PGS_BITS, State};
+use crate::step::step;
+use crate::{PAGE, TABLE_WORDS};
+use std::fmt::Write;
+
+/// A start: state in range, memory and page tables.
+#[derive(Clone, Debug, PartialEq, Eq)]
+pub struct Start {
+    pub state: State,
+    pub memory: Vec<u16>,
+    pub tables: Vec<u16>,
+}
+
+/// Base and mask of the bits that vary, one for each kind of instruction.
+const CLASSES: [(u16, u16); 91] = [
+    (0o000000, 0o003777), // STZ
+    (0o004000, 0o003777),
+    (0o010000, 0o003777),
+    (0o014000, 0o003777),
+    (0o020000, 0o003777),
+    (0o024000, 0o003777),
+    (0o030000, 0o003777),
+    (0o034000, 0o003777),
+    (0o040000, 0o003777),
+    (0o044000, 0o003777),
+    (0o050000, 0o003777),
+    (0o054000, 0o003777),
+    (0o060000, 0o003777),
+    (0o064000, 0o003777),
+    (0o070000, 0o003777),
+    (0o074000, 0o003777), // ORA
+    (0o020000, 0o003777), // again those with more than one access
+    (0o024000, 0o003777),
+    (0o030000, 0o003777),
+    (0o034000, 0o003777),
+    (0o040000, 0o003777),
+    (0o100000, 0o017777), // floating: illegal
+    (0o120000, 0o003777), // MPY
+    (0o124000, 0o003777), // JMP
+    (0o130000, 0o003777), // conditional jumps
+    (0o134000, 0o003777), // JPL
+    (0o140000, 0o003477), // skips
+    (0o140000, 0o003477),
+    (0o140000, 0o003777), // skips and what shares their codes
+    (0o140600, 0o000077), // EXR
+    (0o140600, 0o000077),
+    (0o140600, 0o000077),
+    (0o140600, 0o000077),
+    (0o141200, 0o000077), // RMPY
+    (0o141600, 0o000077), // RDIV
+    (0o141600, 0o000077),
+    (0o142200, 0o000077), // LBYT
+    (0o142600, 0o000077), // SBYT
+    (0o142600, 0o000077),
+    (0o143200, 0o000077), // MIX3
+    (0o143600, 0o000077), // IDENT
+    (0o144000, 0o000377), // SWAP
+    (0o144400, 0o000377), // RAND
+    (0o145000, 0o000377), // REXO
+    (0o145400, 0o000377), // RORA
+    (0o146000, 0o001777), // adding
+    (0o146000, 0o001777),
+    (0o146000, 0o001777),
+    (0o150000, 0o000017), // TRA
+    (0o150100, 0o000017), // TRR
+    (0o150200, 0o000007), // MCL
+    (0o150300, 0o000007), // MST
+    (0o150000, 0o000377), // transfers, served or not
+    (0o150001, 0o000000), // TRA STS
+    (0o150003, 0o000000), // TRA PGS
+    (0o150004, 0o000000), // TRA PVL
+    (0o150005, 0o000000), // TRA IIC
+    (0o150011, 0o000000), // TRA ACTL
+    (0o150014, 0o000000), // TRA PGC
+    (0o150101, 0o000000), // TRR STS
+    (0o150103, 0o000000), // TRR PCR
+    (0o150105, 0o000000), // TRR IIE
+    (0o150201, 0o000100), // MCL and MST STS
+    (0o150206, 0o000101), // MCL and MST PID, PIE
+    (0o150401, 0o000000), // IOF
+    (0o150402, 0o000000), // ION
+    (0o150404, 0o000001), // POF, PIOF
+    (0o150410, 0o000002), // PON, PION
+    (0o150415, 0o000002), // IOXT, DEPO
+    (0o150416, 0o000000), // EXAM
+    (0o150417, 0o000000), // DEPO
+    (0o150400, 0o000377), // the rest of their page
+    (0o151000, 0o000377), // WAIT
+    (0o151400, 0o000377), // NLZ: illegal
+    (0o152402, 0o000170), // SRB
+    (0o152402, 0o000170),
+    (0o152600, 0o000170), // LRB
+    (0o152600, 0o000170),
+    (0o152000, 0o000777), // DNZ, SRB's page
+    (0o153000, 0o000377), // MON
+    (0o153400, 0o000177), // IRW
+    (0o153600, 0o000177), // IRR
+    (0o154000, 0o003677), // shifts
+    (0o154000, 0o003677),
+    (0o154000, 0o003677),
+    (0o154000, 0o003777), // shifts, bit 6 too
+    (0o160000, 0o003777), // illegal
+    (0o164000, 0o003777), // IOX
+    (0o170000, 0o003777), // arguments
+    (0o174000, 0o003777), // bits
+    (0o174000, 0o003777),
+];
+
+/// Operands at the ends of their ranges.
+const ENDS: [u16; 16] = [
+    0, 1, 2, 3, 0o376, 0o377, 0o400, 0o77776, 0o77777, 0o100000, 0o100001, 0o177400, 0o177376,
+    0o177776, 0o177777, 0o52525,
+];
+
+/// A random start, of which the step is likely to be of interest.
+pub fn start(random: &mut Random) -> Start {
+    let pages = 1 + random.below(4) as usize;
+    let mut start = Start {
+        state: State::new(),
+        memory: vec![0; pages * PAGE],
+        tables: vec![0; TABLE_WORDS],
+    };
+    // Virtual pages in use: address registers point near their edges.
+    let mut live = [0; 6];
+    for page in &mut live {
+        *page = random.below(64) as u16;
+    }
+    live[0] = random.pick(&[0, 0, 63, live[0]]);
+    live[1] = (live[0] + 1) % 64;
+    live[2] = random.pick(&[63, 63, live[2]]);
+    if random.one_in(2) {
+        live[4] = (live[3] + 1) % 64;
+    }
+
+    control(random, &mut start.state);
+    tables(random, &mut start, &live, pages);
+    let paging = start.state.paging_on == 1;
+    let physical = (pages * PAGE) as u16;
+
+    for file in &mut start.state.files {
+        for reg in file.iter_mut() {
+            if random.one_in(6) {
+                *reg = random.word();
+            }
+        }
+        file[0] &= 0o377;
+    }
+    let level = usize::from(start.state.level);
+    for number in 1..8 {
+        start.state.files[level][number] = match random.below(8) {
+            0 | 1 => random.pick(&ENDS),
+            2 => random.word(),
+            _ => address(random, &live, paging, physical),
+        };
+    }
+    start.state.files[level][0] = random.word() & 0o377;
+    let mut p = match random.below(16) {
+        0 => 0o177400 + random.word() % 256,
+        1 => random.word(),
+        _ if paging => live[0] << 10 | offset(random),
+        _ => random.word() % physical,
+    };
+    if paging && start.state.pcr[level] & 3 == 3 && random.one_in(8) {
+        p = 0o177400 + random.word() % 256;
+    }
+    start.state.files[level][2] = p;
+    if random.one_in(4) {
+        // A byte address that reaches a live page.
+        start.state.files[level][7] = random.word() % 8;
+    }
+
+    let word = instruction(random);
+    if let Instr::Exr { src } = decode(word)
+        && src != Reg::Sts
+        && src != Reg::P
+        && !random.one_in(8)
+    {
+        start.state.files[level][src as usize] = instruction(random);
+    }
+    if matches!(decode(word), Instr::Exam | Instr::Depo) && !random.one_in(4) {
+        start.state.files[level][5] = 0;
+    }
+    if matches!(decode(word), Instr::Rdiv { .. }) && random.one_in(2) {
+        // A dividend whose quotient may fit.
+        start.state.files[level][5] = random.pick(&[0, 0, 0o177777, 0o177777, 1, 0o177776]);
+    }
+
+    // Words that may be read: operands, indirect words, the other half.
+    for _ in 0..random.below(6) {
+        let at = random.below(start.memory.len() as u64) as usize;
+        start.memory[at] = random.word();
+    }
+    let file = start.state.files[level];
+    let disp = word as u8 as i8 as u16;
+    let (b, t, x) = (file[3], file[6], file[7]);
+    let bases = [
+        p.wrapping_add(disp),
+        b.wrapping_add(disp),
+        x.wrapping_add(disp),
+        b.wrapping_add(x).wrapping_add(disp),
+        t.wrapping_add(x >> 1),
+        x,
+    ];
+    for base in bases {
+        for further in 0..3 {
+            let value = match random.below(4) {
+                0 => random.pick(&ENDS),
+                1 => random.word(),
+                _ => address(random, &live, paging, physical),
+            };
+            put(&mut start, base.wrapping_add(further), value);
+        }
+    }
+    // Most fetches pass.
+    let pcr = start.state.pcr[level];
+    if paging && !random.one_in(8) {
+        let entry = &mut start.tables[usize::from((pcr >> 9 & 3) << 6 | p >> 10)];
+        *entry |= 1 << 13;
+        if *entry >> 9 & 3 > pcr & 3 {
+            *entry = *entry & !(3 << 9) | (pcr & 3) << 9;
+        }
+        if usize::from(*entry & 0o777) >= pages {
+            *entry &= !0o777;
+        }
+    }
+    put_normal(&mut start, p, word);
+    start
+}
+
+fn control(random: &mut Random, state: &mut State) {
+    let any = random.below(16) as u16;
+    state.level = random.pick(&[0, 0, 1, 9, 10, 13, 14, 15, any]);
+    state.interrupts_on = random.below(2) as u16;
+    state.paging_on = (!random.one_in(4)).into();
+    state.stopped = random.one_in(50).into();
+    state.pvl = random.below(16) as u16;
+    let words = [random.word(), random.word(), random.word()];
+    state.iid = random.pick(&[0, words[0] & INTERNAL_BITS]);
+    state.iie = random.pick(&[0, INTERNAL_BITS, words[1] & INTERNAL_BITS]);
+    state.pgs = random.pick(&[0, words[2] & PGS_BITS]);
+    for pcr in &mut state.pcr {
+        if random.one_in(4) {
+            *pcr = random.word() & PCR_BITS;
+        }
+    }
+    state.pcr[usize::from(state.level)] = random.word() & PCR_BITS;
+    state.pid = random.word();
+    state.pie = random.word();
+    if !random.one_in(12) {
+        // The running level is the highest pending and enabled one.
+        state.pid &= !(state.pie & (0o177776 << state.level));
+        if state.level != 0 || random.one_in(2) {
+            state.pid |= 1 << state.level;
+            state.pie |= 1 << state.level;
+        }
+    }
+}
+
+/// Entries of the live pages in all four tables.
+fn tables(random: &mut Random, start: &mut Start, live: &[u16], pages: usize) {
+    let ring = start.state.pcr[usize::from(start.state.level)] & 3;
+    for table in 0..4 {
+        for &page in live {
+            let permits = match random.below(16) {
+                0 => 0,
+                1..=5 => random.below(8) as u16,
+                _ => 7,
+            };
+            let entry_ring = match random.below(16) {
+                0 => random.below(4) as u16,
+                1..=4 => random.below(u64::from(ring) + 1) as u16,
+                _ => ring,
+            };
+            let page_number = match random.below(16) {
+                0 => random.pick(&[pages as u16, 0o777, 0o400]),
+                _ => random.below(pages as u64) as u16,
+            };
+            let marks = random.pick(&[0, 0, 1, 2, 3]);
+            start.tables[usize::from(table << 6 | page)] =
+                permits << 13 | marks << 11 | entry_ring << 9 | page_number;
+        }
+    }
+    for _ in 0..random.below(4) {
+        start.tables[random.below(256) as usize] = random.word();
+    }
+}
+
+/// An offset in a page, often near its edges.
+fn offset(random: &mut Random) -> u16 {
+    match random.below(4) {
+        0 => random.pick(&[0, 1, 2, 1020, 1021, 1022, 1023]),
+        _ => random.word() & 1023,
+    }
+}
+
+fn address(random: &mut Random, live: &[u16], paging: bool, physical: u16) -> u16 {
+    match random.below(12) {
+        0 => 0o177400 + random.word() % 256,
+        1 => random.pick(&[
+            0o177377,
+            0o177776,
+            0o177777,
+            0o177400,
+            physical - 1,
+            physical,
+        ]),
+        _ if paging => random.pick(live) << 10 | offset(random),
+        _ => random.word() % physical,
+    }
+}
+
+/// A random instruction of any kind.
+pub fn instruction(random: &mut Random) -> u16 {
+    if random.one_in(20) {
+        return random.word();
+    }
+    let (base, mask) = random.pick(&CLASSES);
+    let word = base | random.word() & mask;
+    // Small displacements more often.
+    if word < 0o140000 && random.one_in(2) {
+        let small = random.pick(&[0, 1, 2, 0o376, 0o377, 0o177, 0o200]);
+        return word & !0o377 | small;
+    }
+    word
+}
+
+/// Puts a word where an address leads by the normal and the alternate table.
+fn put(start: &mut Start, address: u16, word: u16) {
+    put_normal(start, address, word);
+    let pcr = start.state.pcr[usize::from(start.state.level)];
+    put_by(start, address, pcr >> 7 & 3, word.rotate_left(1));
+}
+
+fn put_normal(start: &mut Start, address: u16, word: u16) {
+    let pcr = start.state.pcr[usize::from(start.state.level)];
+    put_by(start, address, pcr >> 9 & 3, word);
+}
+
+fn put_by(start: &mut Start, address: u16, table: u16, word: u16) {
+    let pcr = start.state.pcr[usize::from(start.state.level)];
+    let paging = start.state.paging_on == 1;
+    if address >= 0o177400 && (!paging || pcr & 3 == 3) {
+        start.tables[usize::from(address & 0o377)] = word;
+        return;
+    }
+    let at = if paging {
+        let entry = start.tables[usize::from(table << 6 | address >> 10)];
+        usize::from(entry & 0o777) * PAGE + usize::from(address) % PAGE
+    } else {
+        usize::from(address)
+    };
+    if let Some(place) = start.memory.get_mut(at) {
+        *place = word;
+    }
+}
+
+/// One case in the line format of `NOTES.md`: the start, then what one step
+/// makes of it.
+pub fn case_text(number: u64, start: &Start) -> String {
+    let mut end = start.clone();
+    let answer = step(&mut end.state, &mut end.memory, &mut end.tables);
+    let interrupt = match answer {
+        Ok(interrupt) => interrupt.map_or(0, Interrupt::number),
+        Err(refusal) => panic!("start refused: {refusal:?}"),
+    };
+    let mut text = String::new();
+    let words = start.state.to_words();
+    let _ = writeln!(text, "case {number} pages {}", start.memory.len() / PAGE);
+    sparse(&mut text, "reg", &words[..128], &[0; 128]);
+    sparse(&mut text, "ctl", &words[128..], &[0; 26]);
+    sparse(
+        &mut text,
+        "mem",
+        &start.memory,
+        &vec![0; start.memory.len()],
+    );
+    sparse(&mut text, "tab", &start.tables, &[0; TABLE_WORDS]);
+    let _ = writeln!(text, "int {interrupt}");
+    let words = end.state.to_words();
+    full(&mut text, "reg=", &words[..128]);
+    full(&mut text, "ctl=", &words[128..]);
+    sparse(&mut text, "mem+", &end.memory, &start.memory);
+    sparse(&mut text, "tab+", &end.tables, &start.tables);
+    text.push_str("end\n");
+    text
+}
+
+/// Words that differ from `from`, as index:word in octal.
+fn sparse(text: &mut String, name: &str, words: &[u16], from: &[u16]) {
+    text.push_str(name);
+    for (index, (word, old)) in words.iter().zip(from).enumerate() {
+        if word != old {
+            let _ = write!(text, " {index:o}:{word:o}");
+        }
+    }
+    text.push('\n');
+}
+
+fn full(text: &mut String, name: &str, words: &[u16]) {
+    text.push_str(name);
+    for word in words {
+        let _ = write!(text, " {word:o}");
+    }
+    text.push('\n');
+}

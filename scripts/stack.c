@@ -1,0 +1,99 @@
+/*
+ * For scripts/stack: how far down its stack each function of include/nd110.h writes. Each is called on a stack of its
+ * own, painted before; the answer is the distance from the stack pointer at the call to the lowest byte that changed.
+ */
+#include "nd110.h"
+#include <stdio.h>
+#include <stdlib.h>
+#include <string.h>
+#include <ucontext.h>
+
+#define PAINT 0xa5
+#define WORDS(a) (sizeof(a) / sizeof((a)[0]))
+#define LENT(a) ND110_LENT((a), WORDS(a))
+
+static unsigned char stack[1 << 16];
+static unsigned char *from;
+static ucontext_t here, there;
+
+static uint16_t state[ND110_STATE_WORDS], memory[4 * ND110_PAGE_WORDS], tables[ND110_TABLE_WORDS];
+static uint16_t out[WORDS(memory) + ND110_IMAGE_EXTRA];
+static uint16_t interrupt, reason, answer;
+static uint64_t steps;
+
+/* The stack pointer of the caller, right before the call. */
+#define CALL(call)                                       \
+    do {                                                 \
+        __asm__ volatile("mov %%rsp, %0" : "=r"(from)); \
+        answer = (call);                                 \
+    } while (0)
+
+static void do_step(void) { CALL(nd110_step(LENT(state), LENT(memory), LENT(tables), &interrupt)); }
+static void do_run(void) { CALL(nd110_run(LENT(state), LENT(memory), LENT(tables), 100, &steps, &reason)); }
+static void do_to(void) { CALL(nd110_run_to_interrupt(LENT(state), LENT(memory), LENT(tables), 100, &steps, &reason)); }
+static void do_raise(void) { CALL(nd110_raise(LENT(state), 10, LENT(memory), LENT(tables))); }
+static void do_load(void) { CALL(nd110_load(LENT(state), LENT(out), LENT(memory), LENT(tables))); }
+static void do_write(void) { CALL(nd110_write(LENT(state), LENT(memory), LENT(tables), LENT(out))); }
+static void do_view(void) { CALL(nd110_view(ND110_MEMORY, 0, 8, LENT(memory), LENT(tables), LENT(out))); }
+static void do_view_answer(void) { CALL(nd110_view_answer(ND110_MEMORY, 0, 8, LENT(memory), LENT(tables))); }
+
+/* Level 1 on ring 2 with paging on, page n at page n, everything permitted to ring 2. A shift of A and D, SRB of level 3
+ * to address 1024, LRB of it, STF, MON 1, WAIT. */
+static void fill(void)
+{
+    static const uint16_t program[] = { 0155601, 0152432, 0152630, 0030010, 0153001, 0151000 };
+    memset(state, 0, sizeof(state));
+    memset(memory, 0, sizeof(memory));
+    memcpy(memory, program, sizeof(program));
+    for (size_t i = 0; i < WORDS(tables); i++)
+        tables[i] = (uint16_t)(0162000 | i % 4);
+    state[ND110_CONTROL(ND110_CONTROL_LEVEL)] = 1;
+    state[ND110_CONTROL(ND110_PAGING_ON)] = 1;
+    state[ND110_CONTROL(ND110_PCR) + 1] = 2;
+    state[ND110_REGISTER(1, ND110_X)] = 1024;
+}
+
+static void expect(const char *name, int as_expected)
+{
+    if (!as_expected) {
+        fprintf(stderr, "stack: %s is not as expected\n", name);
+        exit(1);
+    }
+}
+
+static void show(const char *name, void (*call)(void))
+{
+    memset(stack, PAINT, sizeof(stack));
+    getcontext(&there);
+    there.uc_stack.ss_sp = stack;
+    there.uc_stack.ss_size = sizeof(stack);
+    there.uc_link = &here;
+    makecontext(&there, call, 0);
+    swapcontext(&here, &there);
+    unsigned char *lowest = stack;
+    while (*lowest == PAINT)
+        lowest++;
+    expect(name, answer == ND110_DONE);
+    printf("%s %td\n", name, from - lowest);
+}
+
+int main(void)
+{
+    fill();
+    state[ND110_REGISTER(1, ND110_P)] = 1; /* SRB */
+    show("nd110_step", do_step);
+    expect("SRB", interrupt == 0);
+    fill();
+    show("nd110_run", do_run);
+    expect("the run", steps == 6 && reason == ND110_STOPPED);
+    fill();
+    show("nd110_run_to_interrupt", do_to);
+    expect("the run to MON", steps == 5 && reason == ND110_INTERRUPTED);
+    fill();
+    show("nd110_raise", do_raise);
+    show("nd110_write", do_write);
+    show("nd110_load", do_load);
+    show("nd110_view", do_view);
+    show("nd110_view_answer", do_view_answer);
+    return 0;
+}

@@ -1,0 +1,366 @@
+/*
+ * Every function of include/nd110.h called through the archive, with arguments that cannot be taken for one another:
+ * state, memory, page tables, image and output have different lengths, and the answers tell the numbers apart. What
+ * must come is written by hand from document 01. rust/nd110/tests/calls.rs is the same through the Rust crate.
+ */
+#include "nd110.h"
+#include <stdio.h>
+#include <string.h>
+
+#define WORDS(a) (sizeof(a) / sizeof((a)[0]))
+#define MEMORY_WORDS 2048
+#define IMAGE_WORDS (MEMORY_WORDS + ND110_IMAGE_EXTRA)
+#define GUARD 0125252
+
+/* The lent words, each with a word before and after it that no call may touch. */
+struct machine {
+    uint16_t before_state, state[ND110_STATE_WORDS], after_state;
+    uint16_t before_memory, memory[MEMORY_WORDS], after_memory;
+    uint16_t before_tables, tables[ND110_TABLE_WORDS], after_tables;
+    uint16_t before_out, out[IMAGE_WORDS + 1], after_out;
+};
+static struct machine m;
+
+#define STATE m.state, WORDS(m.state)
+#define MEMORY m.memory, WORDS(m.memory)
+#define TABLES m.tables, WORDS(m.tables)
+#define OUT m.out, WORDS(m.out)
+
+/* Where the rest of an answer is told. A number that is written in a wrong width shows in the words beside it. */
+static uint16_t interrupt[5], reason[5];
+static uint64_t steps[3];
+
+static int failures;
+
+static void is(int line, const char *what, unsigned long long got, unsigned long long want)
+{
+    if (got != want) {
+        printf("calls.c:%d: %s is %llu, not %llu\n", line, what, got, want);
+        failures++;
+    }
+}
+#define IS(got, want) is(__LINE__, #got, (got), (want))
+
+/* Words that are all 0 but for those named. */
+struct word {
+    size_t at;
+    uint16_t value;
+};
+
+static void words_are(int line, const char *what, const uint16_t *got, size_t len, const struct word *named,
+                      size_t count)
+{
+    for (size_t i = 0; i < len; i++) {
+        uint16_t want = 0;
+        for (size_t k = 0; k < count; k++)
+            if (named[k].at == i)
+                want = named[k].value;
+        if (got[i] != want) {
+            printf("calls.c:%d: word %zu of %s is %06o, not %06o\n", line, i, what, (unsigned)got[i], (unsigned)want);
+            failures++;
+        }
+    }
+}
+#define ARE(lent, ...)                                                                               \
+    words_are(__LINE__, #lent, (lent), WORDS(lent), (const struct word[]){ __VA_ARGS__ },            \
+              sizeof((const struct word[]){ __VA_ARGS__ }) / sizeof(struct word))
+
+/* The program, from address 0: SAA 5; AAA 3; MON 7; a word that is no instruction; WAIT; one that is not executed. */
+static const uint16_t program[] = { 0170405, 0172403, 0153007, 0160000, 0151000, 0123456 };
+#define PROGRAM                                                                                      \
+    { 0, 0170405 }, { 1, 0172403 }, { 2, 0153007 }, { 3, 0160000 }, { 4, 0151000 }, { 5, 0123456 }
+
+/* Its image: five entries (kind, start, length), then the bodies: the program; A of level 2; PIE; IIE, which has
+ * interrupt 4; and two page table words. */
+static const uint16_t image[] = {
+    5,
+    1, 0, 0, 0, 6,
+    2, 0, 21, 0, 1,
+    3, 0, 5, 0, 1,
+    3, 0, 8, 0, 1,
+    4, 0, 3, 0, 2,
+    0170405, 0172403, 0153007, 0160000, 0151000, 0123456,
+    000321,
+    010000,
+    000020,
+    0111111, 022222,
+};
+#define IMAGE image, WORDS(image)
+
+enum {
+    A_0 = ND110_REGISTER(0, ND110_A),
+    P_0 = ND110_REGISTER(0, ND110_P),
+    A_2 = ND110_REGISTER(2, ND110_A),
+    T_14 = ND110_REGISTER(14, ND110_T),
+    LEVEL = ND110_CONTROL(ND110_CONTROL_LEVEL),
+    ION = ND110_CONTROL(ND110_INTERRUPTS_ON),
+    STOPPED = ND110_CONTROL(ND110_IS_STOPPED),
+    PID = ND110_CONTROL(ND110_PID),
+    PIE = ND110_CONTROL(ND110_PIE),
+    IID = ND110_CONTROL(ND110_IID),
+    IIE = ND110_CONTROL(ND110_IIE)
+};
+
+/* Where a word is, by document 01 and not by the header. */
+static void places(void)
+{
+    IS(P_0, 2);
+    IS(A_0, 5);
+    IS(A_2, 21);
+    IS(T_14, 118);
+    IS(LEVEL, 128);
+    IS(ION, 129);
+    IS(ND110_CONTROL(ND110_PAGING_ON), 130);
+    IS(STOPPED, 131);
+    IS(PID, 132);
+    IS(PIE, 133);
+    IS(ND110_CONTROL(ND110_PVL), 134);
+    IS(IID, 135);
+    IS(IIE, 136);
+    IS(ND110_CONTROL(ND110_PGS), 137);
+    IS(ND110_CONTROL(ND110_PCR) + 15, 153);
+}
+
+/* Every word lent holds something, so that what a call clears or leaves is seen. */
+static void fill(void)
+{
+    uint16_t *word = (uint16_t *)&m;
+    for (size_t i = 0; i < sizeof(m) / sizeof(*word); i++)
+        word[i] = GUARD;
+    for (size_t i = 0; i < WORDS(reason); i++)
+        interrupt[i] = reason[i] = GUARD;
+    for (size_t i = 0; i < WORDS(steps); i++)
+        steps[i] = GUARD;
+}
+
+static void guards(void)
+{
+    IS(m.before_state, GUARD);
+    IS(m.after_state, GUARD);
+    IS(m.before_memory, GUARD);
+    IS(m.after_memory, GUARD);
+    IS(m.before_tables, GUARD);
+    IS(m.after_tables, GUARD);
+    IS(m.before_out, GUARD);
+    IS(m.after_out, GUARD);
+    IS(interrupt[0], GUARD);
+    IS(interrupt[2], GUARD);
+    IS(reason[0], GUARD);
+    IS(reason[2], GUARD);
+    IS(reason[3], GUARD);
+    IS(reason[4], GUARD);
+    IS(steps[0], GUARD);
+    IS(steps[2], GUARD);
+}
+
+static void loaded(void)
+{
+    fill();
+    IS(nd110_load(STATE, IMAGE, MEMORY, TABLES), 0);
+    ARE(m.state, { A_2, 0321 }, { PIE, 010000 }, { IIE, 020 });
+    ARE(m.memory, PROGRAM);
+    ARE(m.tables, { 3, 0111111 }, { 4, 022222 });
+    guards();
+}
+
+/* SAA 5, by one step. */
+static void stepped(void)
+{
+    loaded();
+    IS(nd110_step(STATE, MEMORY, TABLES, &interrupt[1]), 0);
+    IS(interrupt[1], 0);
+    ARE(m.state, { A_0, 5 }, { P_0, 1 }, { A_2, 0321 }, { PIE, 010000 }, { IIE, 020 });
+    ARE(m.memory, PROGRAM);
+    ARE(m.tables, { 3, 0111111 }, { 4, 022222 });
+    guards();
+}
+
+/* AAA 3, MON 7 (its number to T of level 14, interrupt 1 to IID alone), the illegal word (interrupt 4, which IIE has:
+ * PID bit 14) and WAIT, which stops with interrupts off. */
+static void through(void)
+{
+    stepped();
+    IS(nd110_run(STATE, MEMORY, TABLES, 3, &steps[1], &reason[1]), 0);
+    IS(steps[1], 3);
+    IS(reason[1], 2);
+    IS(nd110_run(STATE, MEMORY, TABLES, 10, &steps[1], &reason[1]), 0);
+    IS(steps[1], 1);
+    IS(reason[1], 0);
+    ARE(m.state, { A_0, 010 }, { P_0, 5 }, { A_2, 0321 }, { T_14, 7 }, { STOPPED, 1 }, { PID, 040000 }, { PIE, 010000 },
+        { IID, 022 }, { IIE, 020 });
+    ARE(m.memory, PROGRAM);
+    ARE(m.tables, { 3, 0111111 }, { 4, 022222 });
+    guards();
+}
+
+/* AAA 3 and MON 7, which ends it; a device's level 11; the illegal word by a step; a change to level 14 that is due. */
+static void to_interrupt(void)
+{
+    stepped();
+    IS(nd110_run_to_interrupt(STATE, MEMORY, TABLES, 10, &steps[1], &reason[1]), 0);
+    IS(steps[1], 2);
+    IS(reason[1], 3);
+    ARE(m.state, { A_0, 010 }, { P_0, 3 }, { A_2, 0321 }, { T_14, 7 }, { PIE, 010000 }, { IID, 02 }, { IIE, 020 });
+    IS(nd110_raise(STATE, 11, MEMORY, TABLES), 0);
+    ARE(m.state, { A_0, 010 }, { P_0, 3 }, { A_2, 0321 }, { T_14, 7 }, { PID, 004000 }, { PIE, 010000 }, { IID, 02 },
+        { IIE, 020 });
+    IS(nd110_step(STATE, MEMORY, TABLES, &interrupt[1]), 0);
+    IS(interrupt[1], 4);
+    m.state[ION] = 1;
+    m.state[PIE] = 050000;
+    IS(nd110_run_to_interrupt(STATE, MEMORY, TABLES, 10, &steps[1], &reason[1]), 0);
+    IS(steps[1], 0);
+    IS(reason[1], 1);
+    ARE(m.state, { A_0, 010 }, { P_0, 4 }, { A_2, 0321 }, { T_14, 7 }, { ION, 1 }, { PID, 044000 }, { PIE, 050000 },
+        { IID, 022 }, { IIE, 020 });
+    IS(nd110_run(STATE, MEMORY, TABLES, 1, &steps[1], &reason[1]), 0);
+    IS(steps[1], 1);
+    IS(reason[1], 2);
+    ARE(m.state, { A_0, 010 }, { P_0, 4 }, { A_2, 0321 }, { T_14, 7 }, { LEVEL, 14 }, { ION, 1 }, { PID, 044000 },
+        { PIE, 050000 }, { IID, 022 }, { IIE, 020 });
+    ARE(m.memory, PROGRAM);
+    ARE(m.tables, { 3, 0111111 }, { 4, 022222 });
+    guards();
+}
+
+static void viewed(void)
+{
+    loaded();
+    IS(nd110_view(1, 2, 3, MEMORY, TABLES, OUT), 0);
+    IS(m.out[0], 0153007);
+    IS(m.out[1], 0160000);
+    IS(m.out[2], 0151000);
+    IS(m.out[3], GUARD);
+    IS(nd110_view(4, 3, 2, MEMORY, TABLES, OUT), 0);
+    IS(m.out[0], 0111111);
+    IS(m.out[1], 022222);
+    IS(m.out[2], 0151000);
+    IS(nd110_view(1, 2047, 1, MEMORY, TABLES, m.out, 1), 0);
+    IS(m.out[0], 0);
+    IS(nd110_view(4, 256, 0, MEMORY, TABLES, m.out, 0), 0);
+    IS(nd110_view_answer(4, 0, 256, MEMORY, TABLES), 0);
+    IS(nd110_view_answer(4, 1, 256, MEMORY, TABLES), 9);
+    IS(nd110_view_answer(1, 4, 256, MEMORY, TABLES), 0);
+    IS(nd110_view_answer(1, 1024, 1024, MEMORY, TABLES), 0);
+    IS(nd110_view_answer(1, 1024, 1025, MEMORY, TABLES), 9);
+    ARE(m.memory, PROGRAM);
+    ARE(m.tables, { 3, 0111111 }, { 4, 022222 });
+    guards();
+}
+
+/* Four full entries and their bodies; then loaded again, over other contents. */
+static void written(void)
+{
+    static const uint16_t contents[] = {
+        4, 1, 0, 0, 0, 2048, 2, 0, 0, 0, 128, 3, 0, 0, 0, 26, 4, 0, 0, 0, 256
+    };
+    static uint16_t copy[IMAGE_WORDS];
+    stepped();
+    IS(nd110_write(STATE, MEMORY, TABLES, OUT), 0);
+    IS(memcmp(m.out, contents, sizeof contents), 0);
+    IS(memcmp(m.out + 21, program, sizeof program), 0);
+    IS(m.out[21 + 2048 + 2], 1);
+    IS(m.out[21 + 2048 + 5], 5);
+    IS(m.out[21 + 2048 + 21], 0321);
+    IS(m.out[21 + 2048 + 128 + 5], 010000);
+    IS(m.out[21 + 2048 + 128 + 26 + 3], 0111111);
+    IS(m.out[21 + 2048 + 128 + 26 + 255], 0);
+    IS(m.out[2479], GUARD);
+    ARE(m.state, { A_0, 5 }, { P_0, 1 }, { A_2, 0321 }, { PIE, 010000 }, { IIE, 020 });
+    guards();
+    memcpy(copy, m.out, sizeof copy);
+    fill();
+    IS(nd110_load(STATE, copy, WORDS(copy), MEMORY, TABLES), 0);
+    ARE(m.state, { A_0, 5 }, { P_0, 1 }, { A_2, 0321 }, { PIE, 010000 }, { IIE, 020 });
+    ARE(m.memory, PROGRAM);
+    ARE(m.tables, { 3, 0111111 }, { 4, 022222 });
+    guards();
+}
+
+/* Every function's refusals; no lent word changes. */
+static void refused(void)
+{
+    static const uint16_t many[] = { 33 };
+    static const uint16_t kind[] = { 1, 5, 0, 0, 0, 0 };
+    static const uint16_t target[] = { 1, 4, 0, 256, 0, 1, 0 };
+    static const uint16_t overlap[] = { 2, 1, 0, 0, 0, 2, 1, 0, 1, 0, 1, 0, 0, 0 };
+    static const uint16_t sts[] = { 1, 2, 0, 0, 0, 1, 0400 };
+    static struct machine was;
+    const uint16_t *nowhere = NULL;
+    loaded();
+    interrupt[1] = reason[1] = 077;
+    steps[1] = 0777;
+    was = m;
+    for (size_t len = 153; len <= 155; len += 2) {
+        IS(nd110_step(m.state, len, MEMORY, TABLES, &interrupt[1]), 255);
+        IS(nd110_run(m.state, len, MEMORY, TABLES, 10, &steps[1], &reason[1]), 255);
+        IS(nd110_run_to_interrupt(m.state, len, MEMORY, TABLES, 10, &steps[1], &reason[1]), 255);
+        IS(nd110_raise(m.state, len, 10, MEMORY, TABLES), 255);
+        IS(nd110_load(m.state, len, IMAGE, MEMORY, TABLES), 255);
+        IS(nd110_write(m.state, len, MEMORY, TABLES, OUT), 255);
+    }
+    for (size_t len = 0; len <= 2047; len += 2047) {
+        IS(nd110_step(STATE, m.memory, len, TABLES, &interrupt[1]), 1);
+        IS(nd110_run(STATE, m.memory, len, TABLES, 10, &steps[1], &reason[1]), 1);
+        IS(nd110_run_to_interrupt(STATE, m.memory, len, TABLES, 10, &steps[1], &reason[1]), 1);
+        IS(nd110_raise(STATE, 10, m.memory, len, TABLES), 1);
+        IS(nd110_load(STATE, IMAGE, m.memory, len, TABLES), 1);
+        IS(nd110_write(STATE, m.memory, len, TABLES, OUT), 1);
+        IS(nd110_view(1, 0, 1, m.memory, len, TABLES, OUT), 1);
+        IS(nd110_view_answer(1, 0, 1, m.memory, len, TABLES), 1);
+    }
+    IS(nd110_step(STATE, MEMORY, m.tables, 255, &interrupt[1]), 1);
+    IS(nd110_run(STATE, MEMORY, m.tables, 255, 10, &steps[1], &reason[1]), 1);
+    IS(nd110_run_to_interrupt(STATE, MEMORY, m.tables, 255, 10, &steps[1], &reason[1]), 1);
+    IS(nd110_raise(STATE, 10, MEMORY, m.tables, 255), 1);
+    IS(nd110_load(STATE, IMAGE, MEMORY, m.tables, 255), 1);
+    IS(nd110_write(STATE, MEMORY, m.tables, 255, OUT), 1);
+    IS(nd110_view(1, 0, 1, MEMORY, m.tables, 255, OUT), 1);
+    IS(nd110_view_answer(1, 0, 1, MEMORY, m.tables, 255), 1);
+    IS(nd110_raise(STATE, 10, ND110_LENT(nowhere, MEMORY_WORDS), TABLES), 1);
+    IS(nd110_raise(STATE, 9, MEMORY, TABLES), 3);
+    IS(nd110_raise(STATE, 14, MEMORY, TABLES), 3);
+    IS(nd110_raise(STATE, 16, MEMORY, TABLES), 3);
+    IS(nd110_load(STATE, image, 0, MEMORY, TABLES), 4);
+    IS(nd110_load(STATE, image, 25, MEMORY, TABLES), 4);
+    IS(nd110_load(STATE, many, WORDS(many), MEMORY, TABLES), 4);
+    IS(nd110_load(STATE, kind, WORDS(kind), MEMORY, TABLES), 5);
+    IS(nd110_load(STATE, target, WORDS(target), MEMORY, TABLES), 6);
+    IS(nd110_load(STATE, overlap, WORDS(overlap), MEMORY, TABLES), 7);
+    IS(nd110_load(STATE, image, WORDS(image) - 1, MEMORY, TABLES), 8);
+    IS(nd110_load(STATE, sts, WORDS(sts), MEMORY, TABLES), 2);
+    IS(nd110_write(STATE, MEMORY, TABLES, m.out, IMAGE_WORDS - 1), 10);
+    IS(nd110_view(2, 0, 1, MEMORY, TABLES, OUT), 255);
+    IS(nd110_view(1, 0, 2, MEMORY, TABLES, m.out, 1), 255);
+    IS(nd110_view(1, 2048, 1, MEMORY, TABLES, OUT), 9);
+    IS(nd110_view(4, 255, 2, MEMORY, TABLES, OUT), 9);
+    IS(nd110_view(4, SIZE_MAX, 2, MEMORY, TABLES, OUT), 9);
+    IS(nd110_view_answer(0, 0, 1, MEMORY, TABLES), 255);
+    IS(nd110_view_answer(5, 0, 1, MEMORY, TABLES), 255);
+    IS(nd110_view_answer(4, SIZE_MAX, 2, MEMORY, TABLES), 9);
+    IS(memcmp(&m, &was, sizeof m), 0);
+    m.state[0] = was.state[0] = 0400;
+    IS(nd110_step(STATE, MEMORY, TABLES, &interrupt[1]), 2);
+    IS(nd110_run(STATE, MEMORY, TABLES, 10, &steps[1], &reason[1]), 2);
+    IS(nd110_run_to_interrupt(STATE, MEMORY, TABLES, 10, &steps[1], &reason[1]), 2);
+    IS(nd110_raise(STATE, 10, MEMORY, TABLES), 2);
+    IS(nd110_write(STATE, MEMORY, TABLES, OUT), 2);
+    IS(memcmp(&m, &was, sizeof m), 0);
+    IS(interrupt[1], 077);
+    IS(reason[1], 077);
+    IS(steps[1], 0777);
+    guards();
+}
+
+int main(void)
+{
+    places();
+    through();
+    to_interrupt();
+    viewed();
+    written();
+    refused();
+    if (failures == 0)
+        printf("the C calls are as expected\n");
+    return failures != 0;
+}
