@@ -1,5 +1,5 @@
-// Cases of the second engine, run by the proved one: standard input has a case a line, standard output gets an answer a line
-// (second/NOTES.md has the format). No contract can say what is read and written.
+// Cases of the second engine, run by the proved one: standard input has a case a line, standard output gets an answer a
+// line (rust/second/NOTES.md has the format). No contract can say what is read and written.
 ghost use mathlib.Core.Path.{_≡_};
 ghost use Prim.Native.Nat.{_≤_};
 ghost use lib.ListN.{length};

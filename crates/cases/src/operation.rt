@@ -6,15 +6,15 @@ use crate::numbers::low;
 use crate::numbers::wide;
 use crate::numbers::within;
 use crate::show::sum;
-use answers::answer_number;
-use answers::reason_number;
+use image_load::bodies::state_in;
 use isa::answer::Answer;
 use isa::answer::RunAnswer;
 use isa::answer::StepAnswer;
 use isa::answer::Target;
 use isa::machine::State;
-use nd110::runs::Ran;
-use placing::state_in;
+use isa::number::answer_number;
+use isa::number::reason_number;
+use operations::runs::Ran;
 
 // An answer that tells no more, and the state that is left.
 fn answered(a: Answer, after: State) -> Told {
@@ -27,7 +27,7 @@ fn answered(a: Answer, after: State) -> Told {
 }
 
 fn step(s: State, mem: &mut [u16], tables: &mut [u16]) -> Told {
-    let r = nd110::step::step(s, mem, tables);
+    let r = operations::step::step(s, mem, tables);
     let after = r.state;
     let a = r.answer;
     match a {
@@ -56,7 +56,7 @@ fn ran(r: Ran) -> Told {
 }
 
 fn raise(s: State, level: u16, mem: &[u16], tables: &[u16]) -> Told {
-    let r = nd110::raise::raise(s, level, mem, tables);
+    let r = operations::raise::raise(s, level, mem, tables);
     let after = r.state;
     let a = r.answer;
     answered(a, after)
@@ -64,7 +64,7 @@ fn raise(s: State, level: u16, mem: &[u16], tables: &[u16]) -> Told {
 
 // An image in lent words.
 fn load(s: State, image: &[u16], mem: &mut [u16], tables: &mut [u16]) -> Told {
-    let r = nd110::load(s, image, mem, tables);
+    let r = operations::load(s, image, mem, tables);
     let after = r.state;
     let a = r.answer;
     answered(a, after)
@@ -94,7 +94,7 @@ fn load_words(
 // The output is the pattern's words before, so that those past the image show.
 fn write(s: State, mem: &[u16], tables: &[u16], out: &mut [u16]) -> Told {
     fill(1, 0, out);
-    let a = nd110::write(s, mem, tables, out);
+    let a = operations::write(s, mem, tables, out);
     Told {
         refusal: answer_number(a) as u64,
         first: sum(out),
@@ -118,8 +118,8 @@ fn view<'a>(
     mem: &'a [u16],
     tables: &'a [u16],
 ) -> Told {
-    let a = nd110::view_answer(target(kind), start, len, mem, tables);
-    let part = nd110::view(target(kind), start, len, mem, tables);
+    let a = operations::view_answer(target(kind), start, len, mem, tables);
+    let part = operations::view(target(kind), start, len, mem, tables);
     Told {
         refusal: answer_number(a) as u64,
         first: part.len() as u64,
@@ -163,8 +163,8 @@ pub(crate) fn act(
     let n = within(a, out);
     match get(words, at, 1) {
         0 => step(s, mem, tables),
-        1 => ran(nd110::runs::through(s, mem, tables, a)),
-        2 => ran(nd110::runs::to_interrupt(s, mem, tables, a)),
+        1 => ran(operations::runs::through(s, mem, tables, a)),
+        2 => ran(operations::runs::to_interrupt(s, mem, tables, a)),
         3 => raise(s, low(a), mem, tables),
         4 => {
             let len = within(get(words, at, 4), out);

@@ -73,12 +73,13 @@ fn running(s: State) {
     }
 }
 
-// Refusal, answers, checksums of registers, control words, page tables and memory, then level and registers of the running level.
+// Refusal, answers, checksums of registers, control words, page tables and memory, then level and registers of the
+// running level.
 pub(crate) fn show(told: Told, mem: &[u16], tables: &[u16]) {
     let s = told.state;
     let regs = s.regs;
     let pcr = s.pcr;
-    let scalars = writing::scalars_of(s);
+    let scalars = image_write::scalars_of(s);
     io::print_decimal(1, told.refusal);
     number(told.first);
     number(told.second);

@@ -1,4 +1,5 @@
-// The second engine's cases of runs, raise, images, views, refusals, every class of words, and steps from random machines.
+// The second engine's cases of runs, raise, images, views, refusals, every class of words, and steps from random
+// machines.
 fn main() {
     cases::check();
 }

@@ -1,2 +1,3 @@
 -- Laws behind the functions' proofs.
 pub mod Laws
+pub mod ExrRow

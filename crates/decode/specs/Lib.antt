@@ -1,2 +1,2 @@
--- What the decoder's parts compute.
-pub mod Operations
+-- EXR, for the stage that follows it.
+pub mod Exr

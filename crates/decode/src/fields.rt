@@ -1,39 +1,14 @@
 // The fields of an instruction word.
 ghost use mathlib.Core.Path.{_≡_};
-ghost use Rattle.decode.specs.Operations.{operationOf};
-ghost use Rattle.isa.specs.Decode.{modeOf, registerOf, destinationOf, sourceOf, fourOf, cldOf, cm1Of, conditionOf, argumentOf, targetOf, kindOf, bitOpOf};
+ghost use Rattle.isa.specs.Decode.{modeOf, registerOf, destinationOf, sourceOf, fourOf, cldOf, cm1Of};
+ghost use Rattle.isa.specs.Decode.{conditionOf, argumentOf, targetOf, kindOf, bitOpOf};
 use isa::instruction::Argument;
 use isa::instruction::BitOp;
 use isa::instruction::Condition;
-use isa::instruction::MemoryOp;
 use isa::instruction::Mode;
 use isa::instruction::ShiftKind;
 use isa::instruction::ShiftTarget;
 use isa::machine::Register;
-
-// The memory operation from STZ to ORA, bits 15-11.
-pub fn operation_of(n: u16) -> MemoryOp
-    ensures { λ r. ⌜ r ≡ operationOf n ⌝ }
-{
-    match n {
-        0 => MemoryOp::Stz,
-        1 => MemoryOp::Sta,
-        2 => MemoryOp::Stt,
-        3 => MemoryOp::Stx,
-        4 => MemoryOp::Std,
-        5 => MemoryOp::Ldd,
-        6 => MemoryOp::Stf,
-        7 => MemoryOp::Ldf,
-        8 => MemoryOp::Min,
-        9 => MemoryOp::Lda,
-        10 => MemoryOp::Ldt,
-        11 => MemoryOp::Ldx,
-        12 => MemoryOp::Add,
-        13 => MemoryOp::Sub,
-        14 => MemoryOp::And,
-        _ => MemoryOp::Ora,
-    }
-}
 
 // The address mode, bits 10-8.
 pub fn mode_of(w: u16) -> Mode

@@ -1,8 +1,8 @@
-// Privileged instructions with their fields. A number n is the low six bits.
+// Privileged instructions with their fields.
 ghost use Prim.Native.Nat.{_%_};
 ghost use mathlib.Core.Path.{_≡_};
 ghost use mathlib.Core.Bool.{cond};
-ghost use Rattle.isa.specs.declared.instruction.ControlOp.the-variants.{Wait, Tra, Trr, Mcl, Mst};
+ghost use Rattle.isa.specs.declared.instruction.ControlOp.the-variants.{Tra, Trr, Mcl, Mst};
 ghost use Rattle.isa.specs.declared.instruction.System.the-variants.{Irr, Irw, Iox, Ident};
 ghost use Rattle.isa.specs.declared.instruction.Instruction.the-variants.{Privileged};
 ghost use Rattle.isa.specs.Decode.{control, traOf, trrOf, maskedOf, switchOf, srbOf, lrbOf, fourOf, destinationOf};
@@ -30,18 +30,18 @@ fn tra(r: Readable) -> Instruction
 }
 
 // TRA: the internal register that is read.
-pub fn tra_of(n: u16) -> Instruction
-    ensures { λ r. ⌜ r ≡ traOf n ⌝ }
+pub fn tra_of(w: u16) -> Instruction
+    ensures { λ r. ⌜ r ≡ traOf (w % 64) ⌝ }
 {
-    match n {
-        1 => tra(Readable::Status),
-        3 => tra(Readable::Pgs),
-        4 => tra(Readable::Pvl),
-        5 => tra(Readable::Iic),
-        6 => tra(Readable::Pid),
-        7 => tra(Readable::Pie),
-        9 => tra(Readable::Actl),
-        12 => Instruction::Privileged(System::TraPgc),
+    match w % 64 {
+        0o01 => tra(Readable::Status),
+        0o03 => tra(Readable::Pgs),
+        0o04 => tra(Readable::Pvl),
+        0o05 => tra(Readable::Iic),
+        0o06 => tra(Readable::Pid),
+        0o07 => tra(Readable::Pie),
+        0o11 => tra(Readable::Actl),
+        0o14 => Instruction::Privileged(System::TraPgc),
         _ => Instruction::Illegal,
     }
 }
@@ -54,15 +54,15 @@ fn trr(r: Writable) -> Instruction
 }
 
 // TRR: the internal register that is written.
-pub fn trr_of(n: u16) -> Instruction
-    ensures { λ r. ⌜ r ≡ trrOf n ⌝ }
+pub fn trr_of(w: u16) -> Instruction
+    ensures { λ r. ⌜ r ≡ trrOf (w % 64) ⌝ }
 {
-    match n {
-        1 => trr(Writable::Status),
-        3 => Instruction::Privileged(System::TrrPcr),
-        5 => trr(Writable::Iie),
-        6 => trr(Writable::Pid),
-        7 => trr(Writable::Pie),
+    match w % 64 {
+        0o01 => trr(Writable::Status),
+        0o03 => Instruction::Privileged(System::TrrPcr),
+        0o05 => trr(Writable::Iie),
+        0o06 => trr(Writable::Pid),
+        0o07 => trr(Writable::Pie),
         _ => Instruction::Illegal,
     }
 }
@@ -78,31 +78,31 @@ fn masked(set: bool, r: Maskable) -> Instruction
 }
 
 // MST or MCL: the internal register whose bits are set or cleared.
-pub fn masked_of(set: bool, n: u16) -> Instruction
-    ensures { λ r. ⌜ r ≡ maskedOf (cond set Mst Mcl) n ⌝ }
+pub fn masked_of(set: bool, w: u16) -> Instruction
+    ensures { λ r. ⌜ r ≡ maskedOf (cond set Mst Mcl) (w % 64) ⌝ }
 {
-    match n {
-        1 => masked(set, Maskable::Status),
-        6 => masked(set, Maskable::Pid),
-        7 => masked(set, Maskable::Pie),
+    match w % 64 {
+        0o01 => masked(set, Maskable::Status),
+        0o06 => masked(set, Maskable::Pid),
+        0o07 => masked(set, Maskable::Pie),
         _ => Instruction::Illegal,
     }
 }
 
 // 150400 to 150477: the switches, IOXT, EXAM and DEPO.
-pub fn switch_of(n: u16) -> Instruction
-    ensures { λ r. ⌜ r ≡ switchOf n ⌝ }
+pub fn switch_of(w: u16) -> Instruction
+    ensures { λ r. ⌜ r ≡ switchOf (w % 64) ⌝ }
 {
-    match n {
-        1 => control(ControlOp::Iof),
-        2 => control(ControlOp::Ion),
-        4 => control(ControlOp::Pof),
-        5 => control(ControlOp::Piof),
-        8 => control(ControlOp::Pon),
-        10 => control(ControlOp::Pion),
-        13 => Instruction::Privileged(System::Ioxt),
-        14 => Instruction::Privileged(System::Exam),
-        15 => Instruction::Privileged(System::Depo),
+    match w % 64 {
+        0o01 => control(ControlOp::Iof),
+        0o02 => control(ControlOp::Ion),
+        0o04 => control(ControlOp::Pof),
+        0o05 => control(ControlOp::Piof),
+        0o10 => control(ControlOp::Pon),
+        0o12 => control(ControlOp::Pion),
+        0o15 => Instruction::Privileged(System::Ioxt),
+        0o16 => Instruction::Privileged(System::Exam),
+        0o17 => Instruction::Privileged(System::Depo),
         _ => Instruction::Illegal,
     }
 }
@@ -125,13 +125,6 @@ pub fn lrb_of(w: u16) -> Instruction
         return Instruction::Privileged(System::Lrb(four_of(w)));
     }
     Instruction::Illegal
-}
-
-// WAIT.
-pub fn wait() -> Instruction
-    ensures { λ r. ⌜ r ≡ control Wait ⌝ }
-{
-    control(ControlOp::Wait)
 }
 
 // IDENT, by its line.
@@ -159,5 +152,5 @@ pub fn irr(w: u16) -> Instruction
 pub fn iox(w: u16) -> Instruction
     ensures { λ r. ⌜ r ≡ Privileged (Iox (w % 2048)) ⌝ }
 {
-    Instruction::Privileged(System::Iox((w % 2048) as u32))
+    Instruction::Privileged(System::Iox((w % 2048) as u64))
 }

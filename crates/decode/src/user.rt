@@ -1,8 +1,11 @@
-// Unprivileged instructions with their fields.
+// Unprivileged instructions and MON, with their fields.
 ghost use mathlib.Core.Path.{_≡_};
-ghost use Rattle.isa.specs.declared.instruction.User.the-variants.{Jump, NoOperation, Shift, SetArgument, AddArgument, Bit, LoadByte, StoreByte, Mix3, Multiply, Divide};
-ghost use Rattle.isa.specs.declared.instruction.Instruction.the-variants.{Unprivileged};
-ghost use Rattle.isa.specs.Decode.{memory, skip, logic, adding, shiftOf, conditionOf, displacementOf, sourceOf, destinationOf, argumentOf, bitOpOf, fourOf, targetOf, kindOf, countOf};
+ghost use Rattle.isa.specs.declared.instruction.User.the-variants.{Jump, Shift, SetArgument, AddArgument};
+ghost use Rattle.isa.specs.declared.instruction.User.the-variants.{Bit, Multiply, Divide};
+ghost use Rattle.isa.specs.declared.instruction.Instruction.the-variants.{Unprivileged, Monitor};
+ghost use Rattle.isa.specs.Decode.{memory, skip, logic, adding, shiftOf};
+ghost use Rattle.isa.specs.Decode.{conditionOf, displacementOf, sourceOf, destinationOf, argumentOf};
+ghost use Rattle.isa.specs.Decode.{bitOpOf, fourOf, targetOf, kindOf, countOf};
 use crate::fields::argument_of;
 use crate::fields::bit_op_of;
 use crate::fields::cld_of;
@@ -25,14 +28,14 @@ use isa::instruction::User;
 pub fn memory(o: MemoryOp, w: u16) -> Instruction
     ensures { λ r. ⌜ r ≡ memory o w ⌝ }
 {
-    Instruction::Unprivileged(User::Memory(o, mode_of(w), signed::displacement(w)))
+    Instruction::Unprivileged(User::Memory(o, mode_of(w), arithmetic::signed::displacement(w)))
 }
 
 // A conditional jump.
 pub fn jump(w: u16) -> Instruction
     ensures { λ r. ⌜ r ≡ Unprivileged (Jump (conditionOf w) (displacementOf w)) ⌝ }
 {
-    Instruction::Unprivileged(User::Jump(condition_of(w), signed::displacement(w)))
+    Instruction::Unprivileged(User::Jump(condition_of(w), arithmetic::signed::displacement(w)))
 }
 
 // A skip, by its relation.
@@ -76,39 +79,11 @@ pub fn divide(w: u16) -> Instruction
     Instruction::Unprivileged(User::Divide(source_of(w)))
 }
 
-// LBYT.
-pub fn load_byte() -> Instruction
-    ensures { λ r. ⌜ r ≡ Unprivileged LoadByte ⌝ }
-{
-    Instruction::Unprivileged(User::LoadByte)
-}
-
-// SBYT.
-pub fn store_byte() -> Instruction
-    ensures { λ r. ⌜ r ≡ Unprivileged StoreByte ⌝ }
-{
-    Instruction::Unprivileged(User::StoreByte)
-}
-
-// MIX3.
-pub fn mix3() -> Instruction
-    ensures { λ r. ⌜ r ≡ Unprivileged Mix3 ⌝ }
-{
-    Instruction::Unprivileged(User::Mix3)
-}
-
-// RADD with both AD1 and ADC.
-pub fn no_operation() -> Instruction
-    ensures { λ r. ⌜ r ≡ Unprivileged NoOperation ⌝ }
-{
-    Instruction::Unprivileged(User::NoOperation)
-}
-
 // A shift, by its register, kind and count.
 fn shift(w: u16) -> Instruction
     ensures { λ r. ⌜ r ≡ Unprivileged (Shift (targetOf w) (kindOf w) (countOf w)) ⌝ }
 {
-    Instruction::Unprivileged(User::Shift(target_of(w), kind_of(w), signed::count(w)))
+    Instruction::Unprivileged(User::Shift(target_of(w), kind_of(w), arithmetic::signed::count(w)))
 }
 
 // A shift word with bit 6 set is illegal.
@@ -125,14 +100,27 @@ pub fn shift_of(w: u16) -> Instruction
 pub fn set_argument(w: u16) -> Instruction
     ensures { λ r. ⌜ r ≡ Unprivileged (SetArgument (argumentOf w) (displacementOf w)) ⌝ }
 {
-    Instruction::Unprivileged(User::SetArgument(argument_of(w), signed::displacement(w)))
+    Instruction::Unprivileged(User::SetArgument(
+        argument_of(w),
+        arithmetic::signed::displacement(w),
+    ))
 }
 
 // AAB, AAA, AAT, AAX.
 pub fn add_argument(w: u16) -> Instruction
     ensures { λ r. ⌜ r ≡ Unprivileged (AddArgument (argumentOf w) (displacementOf w)) ⌝ }
 {
-    Instruction::Unprivileged(User::AddArgument(argument_of(w), signed::displacement(w)))
+    Instruction::Unprivileged(User::AddArgument(
+        argument_of(w),
+        arithmetic::signed::displacement(w),
+    ))
+}
+
+// MON, by its number.
+pub fn monitor(w: u16) -> Instruction
+    ensures { λ r. ⌜ r ≡ Monitor (displacementOf w) ⌝ }
+{
+    Instruction::Monitor(arithmetic::signed::displacement(w))
 }
 
 // A bit instruction.

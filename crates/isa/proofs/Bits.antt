@@ -12,7 +12,8 @@ use Rattle.isa.specs.Machine.{withBit}
 -- a bit and the n bits below it are n + 1 bits
 bit-and-rest : (n v w : ℕ) → v < 2 → v * 2 ^ n + w % 2 ^ n < 2 ^ suc n
 bit-and-rest n v w b =
-    subst⁻¹ (λ (x : ℕ). v * 2 ^ n + w % 2 ^ n < x) (pow-suc 2 n ∙ mul-comm (2 ^ n) 2) (digits-lt b (mod-lt w (pow-pos n)))
+    subst⁻¹ (λ (x : ℕ). v * 2 ^ n + w % 2 ^ n < x) (pow-suc 2 n ∙ mul-comm (2 ^ n) 2)
+    (digits-lt b (mod-lt w (pow-pos n)))
 
 -- a bit below the width may be set or cleared
 pub bit-below : (k n v w : ℕ) → n < k → v < 2 → w < 2 ^ k → withBit n v w < 2 ^ k

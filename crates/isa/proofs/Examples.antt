@@ -7,11 +7,13 @@ use mathlib.Core.List.{List, [], _∷_, _++_}
 use lib.ListN.{replicate}
 use Rattle.isa.specs.Machine.{fileAt, putFile}
 use Rattle.isa.specs.Flags.{adder, withOverflow, withSum, productOverflow, divisionFails, leftOnce, rightOnce}
-use Rattle.isa.specs.Decode.{byEnds, decode, traOf, trrOf, maskedOf, switchOf, srbOf, lrbOf, shiftOf}
+use Rattle.isa.specs.Decode.{byCode, byNumber, decode, traOf, trrOf, maskedOf, switchOf, srbOf, lrbOf, shiftOf}
 use Rattle.isa.specs.Address.{firstAddress}
 use Rattle.isa.specs.Instructions.{divided}
 use Rattle.isa.specs.Pages.{entryOf, withinMemory, judged, inWindow, translate, marked, lowered}
-use Rattle.isa.specs.Step.{Turn, step, interrupted, faulted, finished, operandsTested, operands, indirectTested, userStage, examined, deposited, instructionStage, fetched, stepIn, putOther, blockStored, blockLoaded, farStage, settled, changeDue, levelChanged}
+use Rattle.isa.specs.Step.{Turn, step, interrupted, faulted, finished, operandsTested, operands, indirectTested}
+use Rattle.isa.specs.Step.{userStage, examined, deposited, instructionStage, fetched, stepIn, putOther}
+use Rattle.isa.specs.Step.{blockStored, blockLoaded, farStage, settled, changeDue, levelChanged}
 use Rattle.isa.specs.Cases.{quiet, given, stated}
 use Rattle.isa.specs.Isolation.{permits, permitsWriting}
 use Rattle.isa.specs.declared.machine.State.{State}
@@ -35,8 +37,8 @@ pub window-rings : given windows ≡ stated windows
 unfolding inWindow
 window-rings = refl
 
--- which page an entry permits to a ring: 163000 has all permits, ring 3 and page 0; 041005 is read alone, ring 1, page 5; 101005
--- write alone; 015005 has marks and no permit
+-- which page an entry permits to a ring: 163000 has all permits, ring 3 and page 0; 041005 is read alone, ring 1, page
+-- 5; 101005 write alone; 015005 has marks and no permit
 abbrev permissions : List (Bool × Bool)
 permissions =
     (permits (entryOf 0o163000) 3 0, true)
@@ -54,9 +56,9 @@ permits-rings = refl
 
 -- ---- which table each access goes by
 
--- One step of the word w at P 0 with B 004000, X 010000, T 0 and the flags given, paging on, normal table 0, alternate table 1. Every
--- entry of both tables permits all of physical page 0, so that the marks alone tell which entries were used. The word at displacement 1
--- is 014000.
+-- One step of the word w at P 0 with B 004000, X 010000, T 0 and the flags given, paging on, normal table 0, alternate
+-- table 1. Every entry of both tables permits all of physical page 0, so that the marks alone tell which entries were
+-- used. The word at displacement 1 is 014000.
 abbrev start : ℕ → State
 start sts = record {
   regs = sts ∷ 0 ∷ 0 ∷ 0o4000 ∷ 0 ∷ 0 ∷ 0 ∷ 0o10000 ∷ replicate 120 0;
@@ -76,8 +78,9 @@ usedFrom i (e ∷ es) = cond (entryOf e .pgu) (i ∷ []) [] ++ usedFrom (suc i) 
 abbrev used : ℕ → ℕ → List ℕ
 used sts w = usedFrom 0 (after sts w .tables)
 
--- LDA and STA by the eight modes with displacement 1, and the byte instructions; with PTM 1, then LDA with PTM 0. The fetch is slot 0.
--- B is in virtual page 2, X in 4, the indirect word's address in 6, B + X in 6, that address + X in 10, T + X / 2 in 2.
+-- LDA and STA by the eight modes with displacement 1, and the byte instructions; with PTM 1, then LDA with PTM 0. The
+-- fetch is slot 0. B is in virtual page 2, X in 4, the indirect word's address in 6, B + X in 6, that address + X in
+-- 10, T + X / 2 in 2.
 abbrev accesses : List (List ℕ × List ℕ)
 accesses =
     (used 1 0o044001, 0 ∷ [])
@@ -110,5 +113,9 @@ accesses =
     ∷ []
 
 pub access-tables : given accesses ≡ stated accesses
-unfolding fileAt putFile adder withOverflow withSum productOverflow divisionFails leftOnce rightOnce byEnds decode traOf trrOf maskedOf switchOf srbOf lrbOf shiftOf firstAddress divided withinMemory judged inWindow translate marked lowered step interrupted faulted finished operandsTested operands indirectTested userStage examined deposited instructionStage fetched stepIn putOther blockStored blockLoaded farStage settled changeDue levelChanged
+unfolding fileAt putFile adder withOverflow withSum productOverflow divisionFails leftOnce rightOnce byCode byNumber
+    decode traOf
+    trrOf maskedOf switchOf srbOf lrbOf shiftOf firstAddress divided withinMemory judged inWindow translate marked
+    lowered step interrupted faulted finished operandsTested operands indirectTested userStage examined deposited
+    instructionStage fetched stepIn putOther blockStored blockLoaded farStage settled changeDue levelChanged
 access-tables = refl

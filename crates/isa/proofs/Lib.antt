@@ -1,7 +1,6 @@
 -- Laws about the definitions.
 pub mod Tests
 pub mod Signed
-pub mod Adder
 pub mod Shifts
 pub mod Window
 pub mod Marks

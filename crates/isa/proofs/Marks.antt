@@ -65,15 +65,24 @@ mark-low Write e = omega arith
 mark-low Indirect e = omega arith
 
 pub mark-keeps : (t t₀ : List ℕ) (i : ℕ) (k : Kind) → Marked t t₀ → Marked (set t i (markOf k (getD t i 0))) t₀
-mark-keeps t t₀ i k h j = then-entry (entryAt (set t i v) j) (entryAt t j) (entryAt t₀ j) (go (ℕ-discrete j i) (decLt i (length t))) (h j)
+mark-keeps t t₀ i k h j =
+    then-entry (entryAt (set t i v) j) (entryAt t j) (entryAt t₀ j) (go (ℕ-discrete j i) (decLt i (length t))) (h j)
   where
     v : ℕ
     v = markOf k (getD t i 0)
 
     at-slot : (x : ℕ) → x ≡ v → MarksAlone (entryOf x) (entryOf (getD t i 0))
-    at-slot x e = like-word x (getD t i 0) (ap (λ (y : ℕ). y / 8192) e ∙ mark-top k (getD t i 0)) (ap (λ (y : ℕ). y % 2048) e ∙ mark-low k (getD t i 0))
+    at-slot x e =
+        like-word x (getD t i 0) (ap (λ (y : ℕ). y / 8192) e ∙ mark-top k (getD t i 0))
+        (ap (λ (y : ℕ). y % 2048) e ∙ mark-low k (getD t i 0))
 
     go : Dec (j ≡ i) → Dec (i < length t) → MarksAlone (entryAt (set t i v) j) (entryAt t j)
-    go (no q) d = subst (λ (x : ℕ). MarksAlone (entryOf x) (entryAt t j)) (sym (getD-set-other t i j v 0 q)) (same-entry (entryAt t j))
-    go (yes q) (yes l) = subst (λ (x : ℕ). MarksAlone (entryAt (set t i v) x) (entryAt t x)) (sym q) (at-slot (getD (set t i v) i 0) (getD-set-same t i v 0 l))
-    go (yes q) (no l) = subst (λ (x : List ℕ). MarksAlone (entryAt x j) (entryAt t j)) (sym (set-out t i v (omega arith))) (same-entry (entryAt t j))
+    go (no q) d =
+        subst (λ (x : ℕ). MarksAlone (entryOf x) (entryAt t j)) (sym (getD-set-other t i j v 0 q))
+        (same-entry (entryAt t j))
+    go (yes q) (yes l) =
+        subst (λ (x : ℕ). MarksAlone (entryAt (set t i v) x) (entryAt t x)) (sym q)
+        (at-slot (getD (set t i v) i 0) (getD-set-same t i v 0 l))
+    go (yes q) (no l) =
+        subst (λ (x : List ℕ). MarksAlone (entryAt x j) (entryAt t j)) (sym (set-out t i v (omega arith)))
+        (same-entry (entryAt t j))

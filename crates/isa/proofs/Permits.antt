@@ -10,12 +10,15 @@ use native.Mathlib.Nat.{le-trans}
 use native.Mathlib.Decide.{ℕ-discrete}
 use lib.Dec.{ltb, eqb}
 use borrow.Author.Tests.{leb-true, le-leb, eq-eqb}
-use Rattle.isa.specs.Pages.{Entry, entryAt, somePermit, needed, ringAllows, physical, pagingStatus, inMemory, withinMemory, judged}
-use Rattle.isa.specs.Isolation.{MarksAlone, permits, permitsWriting, someBelow, someEntry, inEither, permitted, permittedWriting}
+use Rattle.isa.specs.Pages.{Entry, entryAt, somePermit, needed, ringAllows, physical, pagingStatus, inMemory}
+use Rattle.isa.specs.Pages.{withinMemory, judged}
+use Rattle.isa.specs.Isolation.{MarksAlone, permits, permitsWriting, someBelow, someEntry, inEither, permitted}
+use Rattle.isa.specs.Isolation.{permittedWriting}
 use Rattle.isa.specs.declared.access.Kind.{Kind}
 use Rattle.isa.specs.declared.access.Kind.the-variants.{Fetch, Read, Write, Indirect}
 use Rattle.isa.specs.declared.access.Translation.{Translation}
-use Rattle.isa.specs.declared.access.Translation.the-variants.{NoAccess, Load, Store, LoadTable, StoreTable, Protection, PageFault, OutOfRange}
+use Rattle.isa.specs.declared.access.Translation.the-variants.{NoAccess, Load, Store, LoadTable, StoreTable}
+use Rattle.isa.specs.declared.access.Translation.the-variants.{Protection, PageFault, OutOfRange}
 use Rattle.isa.proofs.Tests.{no-both, or-left, or-right, and-both, and-left, and-right}
 
 -- some number below n passes where one does
@@ -49,12 +52,15 @@ module _ (e f : Entry) (ring ring₀ page : ℕ) (h : MarksAlone e f) (l : ring 
 
 -- an entry of either-table table that passes a test
 module _ (f : Entry → Bool) (t : List ℕ) (a b : ℕ) where
-  pub either-table : (table v : ℕ) → (table ≡ a) ⊎ (table ≡ b) → v < 64 → f (entryAt t (table * 64 + v)) ≡ true → inEither f t a b ≡ true
+  pub either-table : (table v : ℕ) → (table ≡ a) ⊎ (table ≡ b) → v < 64 → f (entryAt t (table * 64 + v)) ≡ true
+      → inEither f t a b ≡ true
   unfolding inEither
   either-table table v (inl q) l h =
-      or-left (someEntry f t a) (someEntry f t b) (some-below 64 v (λ (x : ℕ). f (entryAt t (a * 64 + x))) l (rw q at h))
+      or-left (someEntry f t a) (someEntry f t b)
+      (some-below 64 v (λ (x : ℕ). f (entryAt t (a * 64 + x))) l (rw q at h))
   either-table table v (inr q) l h =
-      or-right (someEntry f t a) (someEntry f t b) (some-below 64 v (λ (x : ℕ). f (entryAt t (b * 64 + x))) l (rw q at h))
+      or-right (someEntry f t a) (someEntry f t b)
+      (some-below 64 v (λ (x : ℕ). f (entryAt t (b * 64 + x))) l (rw q at h))
 
 -- a test that implies another, at one of two, at some number, at some entry
 or-both : (x y u v : Bool) → (x ≡ true → u ≡ true) → (y ≡ true → v ≡ true) → (x || y) ≡ true → (u || v) ≡ true
@@ -65,22 +71,27 @@ some-both : (n : ℕ) (f g : ℕ → Bool) → ((v : ℕ) → f v ≡ true → g
 some-both zero f g h q = q
 some-both (suc n) f g h q = or-both (f n) (someBelow n f) (g n) (someBelow n g) (h n) (some-both n f g h) q
 
-either-both : (f g : Entry → Bool) (t : List ℕ) (a b : ℕ) → ((e : Entry) → f e ≡ true → g e ≡ true) → inEither f t a b ≡ true → inEither g t a b ≡ true
+either-both : (f g : Entry → Bool) (t : List ℕ) (a b : ℕ) → ((e : Entry) → f e ≡ true → g e ≡ true)
+    → inEither f t a b ≡ true → inEither g t a b ≡ true
 unfolding inEither
 either-both f g t a b h =
     or-both (someEntry f t a) (someEntry f t b) (someEntry g t a) (someEntry g t b)
-    (some-both 64 (λ (v : ℕ). f (entryAt t (a * 64 + v))) (λ (v : ℕ). g (entryAt t (a * 64 + v))) (λ v. h (entryAt t (a * 64 + v))))
-    (some-both 64 (λ (v : ℕ). f (entryAt t (b * 64 + v))) (λ (v : ℕ). g (entryAt t (b * 64 + v))) (λ v. h (entryAt t (b * 64 + v))))
+    (some-both 64 (λ (v : ℕ). f (entryAt t (a * 64 + v))) (λ (v : ℕ). g (entryAt t (a * 64 + v)))
+    (λ v. h (entryAt t (a * 64 + v))))
+    (some-both 64 (λ (v : ℕ). f (entryAt t (b * 64 + v))) (λ (v : ℕ). g (entryAt t (b * 64 + v)))
+    (λ v. h (entryAt t (b * 64 + v))))
 
 -- a page that is permitted for writing is permitted
-pub writing-permitted : (t : List ℕ) (a b ring page : ℕ) → permittedWriting t a b ring page ≡ true → permitted t a b ring page ≡ true
+pub writing-permitted : (t : List ℕ) (a b ring page : ℕ) → permittedWriting t a b ring page ≡ true
+    → permitted t a b ring page ≡ true
 writing-permitted t a b ring page =
     either-both (λ (e : Entry). permitsWriting e ring page) (λ (e : Entry). permits e ring page) t a b
     (λ e. and-left (permits e ring page) (e .write))
 
 -- ---- the tests of an access
 
--- where an access that passed by the entry e goes: to load from a page that e permits, to store to one that it permits for writing
+-- where an access that passed by the entry e goes: to load from a page that e permits, to store to one that it permits
+-- for writing
 abbrev pub By : Entry → ℕ → Translation → Type 0
 By e ring NoAccess = Unit {0}
 By e ring (Load p) = permits e ring (p / 1024) ≡ true
@@ -108,10 +119,13 @@ module _ (e : Entry) (ring va : ℕ) (some : somePermit e ≡ true) (allows : ri
 
 pub judged-by : (e : Entry) (slot words ring : ℕ) (k : Kind) (va : ℕ) → By e ring (judged e slot words ring k va)
 unfolding judged withinMemory
-judged-by e slot words ring k va = go (somePermit e) refl (needed e k) refl (ringAllows e ring) refl (ltb (physical e va) words)
+judged-by e slot words ring k va =
+    go (somePermit e) refl (needed e k) refl (ringAllows e ring) refl (ltb (physical e va) words)
   where
     go : (x : Bool) → somePermit e ≡ x → (y : Bool) → needed e k ≡ y → (z : Bool) → ringAllows e ring ≡ z → (w : Bool)
-        → By e ring (cond (not x) (PageFault (pagingStatus k 16384 slot)) (cond (not y) (Protection (pagingStatus k 16384 slot)) (cond (not z) (Protection (pagingStatus k 0 slot)) (cond w (inMemory k (physical e va)) OutOfRange))))
+        → By e ring (cond (not x) (PageFault (pagingStatus k 16384 slot))
+        (cond (not y) (Protection (pagingStatus k 16384 slot))
+        (cond (not z) (Protection (pagingStatus k 0 slot)) (cond w (inMemory k (physical e va)) OutOfRange))))
     go false p y q z r w = tt
     go true p false q z r w = tt
     go true p true q false r w = tt

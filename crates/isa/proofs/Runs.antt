@@ -13,7 +13,8 @@ use Rattle.isa.specs.declared.machine.State.{State}
 use Rattle.isa.specs.declared.answer.Reason.{Reason}
 use Rattle.isa.specs.declared.answer.Reason.the-variants.{Stopped, Level, Spent, Interrupt}
 
--- after k steps, with n to go: at least k were taken, at most n more, and exactly n more where the run is spent (reason 2)
+-- after k steps, with n to go: at least k were taken, at most n more, and exactly n more where the run is spent (reason
+-- 2)
 pub record Taken (n k : ℕ) (r : Run) : Type 0 where
   pub least : k ≤ r .steps
   pub most : r .steps ≤ k + n
@@ -26,14 +27,19 @@ at-once w n k s m t h = record { least = omega arith; most = omega arith; spent 
 -- one step more
 one-more : (n k : ℕ) (r : Run) → Taken n (suc k) r → Taken (suc n) k r
 one-more n k r h =
-    record { least = omega (arith, h .least); most = omega (arith, h .most); spent = λ q. let e = h .spent q in omega (arith, e) }
+    record {
+      least = omega (arith, h .least);
+      most = omega (arith, h .most);
+      spent = λ q. let e = h .spent q in omega (arith, e);
+    }
 
 after-taken : (first : Bool) (n k : ℕ) (rest : ℕ → State → List ℕ → List ℕ → Run) (r : Turn)
     → ((s : State) (m t : List ℕ) → Taken n (suc k) (rest (suc k) s m t)) → Taken (suc n) k (afterStep first rest k r)
 after-taken first n k rest r h = one-more n k (afterStep first rest k r) (go (first && not (eqb (r .gave) 0)))
   where
     go : (x : Bool)
-        → Taken n (suc k) (cond x (ended Interrupt (suc k) (r .state) (r .memory) (r .tables)) (rest (suc k) (r .state) (r .memory) (r .tables)))
+        → Taken n (suc k) (cond x (ended Interrupt (suc k) (r .state) (r .memory) (r .tables))
+        (rest (suc k) (r .state) (r .memory) (r .tables)))
     go true = at-once Interrupt n (suc k) (r .state) (r .memory) (r .tables) (λ q. omega (arith, q))
     go false = h (r .state) (r .memory) (r .tables)
 
@@ -52,7 +58,8 @@ run-taken first (suc n) k s m t =
     (after-taken first n k (runFrom first n) (step s m t) (run-taken first n (suc k)))
 
 -- a stopped machine ends a run at once, whatever memory holds
-pub run-stopped : (first : Bool) (n k : ℕ) (s : State) (m t : List ℕ) → isStopped s ≡ true → runFrom first n k s m t ≡ ended Stopped k s m t
+pub run-stopped : (first : Bool) (n k : ℕ) (s : State) (m t : List ℕ) → isStopped s ≡ true
+    → runFrom first n k s m t ≡ ended Stopped k s m t
 run-stopped first zero k s m t h = rw h
 run-stopped first (suc n) k s m t h = rw h
 

@@ -1,7 +1,8 @@
 -- Facts that shifts of 16 and 32 bits share, for any width above 0.
 -- Assumes nothing.
 use Prim.Native.Nat.{ℕ, zero, suc, _+_, _-_, _*_, _/_, _%_, _^_, _<_}
-use native.Mathlib.Nat.{div-add-mod', mod-lt, div-lt-iff-lt-mul, div-one, mul-one, mul-comm, mul-assoc, add-zero, zero-mul, mod-eq-of-lt, mul-div-cancel, mul-mod-left, pow-suc}
+use native.Mathlib.Nat.{div-add-mod', mod-lt, div-lt-iff-lt-mul, div-one, mul-one, mul-comm, mul-assoc, add-zero}
+use native.Mathlib.Nat.{zero-mul, mod-eq-of-lt, mul-div-cancel, mul-mod-left, pow-suc}
 use native.Mathlib.Numerals.{add-one}
 use native.Mathlib.Omega.{arith}
 use mathlib.Core.Path.{_≡_, sym, ap, _∙_, subst}
@@ -40,7 +41,8 @@ module _ (w : ℕ) (h : 0 < w) where
 
   -- the top bit of a value of the width
   top-bit : (v : ℕ) → v < 2 ^ w → v / 2 ^ (w - 1) < 2
-  top-bit v l = div-lt-iff-lt-mul (pow-pos (w - 1)) .1 (subst (λ (x : ℕ). v < x) (twice-half w h ∙ mul-comm (2 ^ (w - 1)) 2) l)
+  top-bit v l =
+      div-lt-iff-lt-mul (pow-pos (w - 1)) .1 (subst (λ (x : ℕ). v < x) (twice-half w h ∙ mul-comm (2 ^ (w - 1)) 2) l)
 
   half-below : (v : ℕ) → v < 2 ^ w → v / 2 < 2 ^ (w - 1)
   half-below v l = div-lt-iff-lt-mul (lit< tt) .1 (subst (λ (x : ℕ). v < x) (twice-half w h) l)
@@ -69,7 +71,8 @@ module _ (w : ℕ) (h : 0 < w) where
       }
 
   -- so does a shift by any count
-  pub places-narrow : (left : Bool) (k : ShiftKind) (n : ℕ) (s : Shifted) → Narrow w s → Narrow w (placesBy left w k n s)
+  pub places-narrow : (left : Bool) (k : ShiftKind) (n : ℕ) (s : Shifted) → Narrow w s
+      → Narrow w (placesBy left w k n s)
   places-narrow left k zero s g = g
   places-narrow left k (suc n) s g = once-narrow left k (placesBy left w k n s) (places-narrow left k n s g)
 
@@ -81,7 +84,8 @@ pub places-split :
     (left : Bool) (w : ℕ) (k : ShiftKind) (i j : ℕ) (s : Shifted)
     → placesBy left w k (j + i) s ≡ placesBy left w k i (placesBy left w k j s)
 places-split left w k zero j s = ap (λ (n : ℕ). placesBy left w k n s) (add-zero j)
-places-split left w k (suc i) j s = ap (λ (n : ℕ). placesBy left w k n s) q ∙ ap (once left w k) (places-split left w k i j s)
+places-split left w k (suc i) j s =
+    ap (λ (n : ℕ). placesBy left w k n s) q ∙ ap (once left w k) (places-split left w k i j s)
   where
     q : j + suc i ≡ suc (j + i)
     q = omega arith
@@ -135,7 +139,8 @@ module _ (w v m : ℕ) (h : 0 < w) (l : v < 2 ^ w) where
       ∙ left-step (v * 2 ^ n)
       ∙ ap (λ (x : ℕ). x % 2 ^ w) (mul-assoc v (2 ^ n) 2 ∙ ap (λ (x : ℕ). v * x) (sym (pow-suc 2 n)))
 
-  pub zero-left : (n : ℕ) → left (suc n) ≡ record { value = (v * 2 ^ suc n) % 2 ^ w; m = (v * 2 ^ n) % 2 ^ w / 2 ^ (w - 1) }
+  pub zero-left : (n : ℕ) → left (suc n)
+      ≡ record { value = (v * 2 ^ suc n) % 2 ^ w; m = (v * 2 ^ n) % 2 ^ w / 2 ^ (w - 1) }
   unfolding leftOnce
   zero-left n =
       ap (λ (x : ℕ). record { value = x; m = left n .value / 2 ^ (w - 1) }) (left-value (suc n))

@@ -1,8 +1,7 @@
 -- Values that a test decides, and tests that stand together.
 -- Assumes nothing.
-use mathlib.Core.Path.{_≡_, refl, subst}
-use mathlib.Core.Bool.{Bool, true, false, cond, not, _&&_, _||_}
-use lib.Dec.{T}
+use mathlib.Core.Path.{_≡_, refl}
+use mathlib.Core.Bool.{Bool, true, false, cond, _&&_, _||_, false≢true}
 
 -- one of two values, by a test
 pub either : {A : Type 0} (P : A → Type 0) (b : Bool) {x y : A} → P x → P y → P (cond b x y)
@@ -16,7 +15,7 @@ decided P false p q = q refl
 
 -- no test has both outcomes
 pub no-both : false ≡ true → ⊥
-no-both e = subst (λ (b : Bool). T (not b)) e tt
+no-both = false≢true
 
 -- of two tests, one or both
 pub or-left : (x y : Bool) → x ≡ true → (x || y) ≡ true

@@ -3,19 +3,21 @@ use Prim.Native.Nat.{ℕ, _+_, _/_, _%_}
 use mathlib.Core.Bool.{Bool, true, false}
 use mathlib.Core.List.{List, [], _∷_}
 use lib.IntN.{ℤ}
-use Rattle.isa.specs.Machine.{reg}
+use Rattle.isa.specs.Machine.{wordRange, reg}
 use Rattle.isa.specs.Flags.{bitsOf}
 use Rattle.isa.specs.declared.machine.File.{File}
 use Rattle.isa.specs.declared.machine.Register.the-variants.{P, B, T, X}
 use Rattle.isa.specs.declared.instruction.Mode.{Mode}
-use Rattle.isa.specs.declared.instruction.Mode.the-variants.{PRelative, BRelative, PIndirect, BIndirect, XRelative, BIndexed, PIndirectIndexed, BIndirectIndexed}
+use Rattle.isa.specs.declared.instruction.Mode.the-variants.{PRelative, BRelative, PIndirect, BIndirect}
+use Rattle.isa.specs.declared.instruction.Mode.the-variants.{XRelative, BIndexed, PIndirectIndexed}
+use Rattle.isa.specs.declared.instruction.Mode.the-variants.{BIndirectIndexed}
 use Rattle.isa.specs.declared.access.Access.{Access}
 use Rattle.isa.specs.declared.access.Kind.{Kind}
 use Rattle.isa.specs.declared.access.Kind.the-variants.{Indirect}
 
 -- "Address sums drop every carry out of bit 15; so do ea+1 and ea+2."
 abbrev pub sum : ℕ → ℕ → ℕ
-sum a b = (a + b) % 65536
+sum a b = (a + b) % wordRange
 
 -- "P is the instruction's own address": what the displacement is added to
 abbrev pub baseOf : Mode → File → ℕ
@@ -32,8 +34,8 @@ baseOf BIndirectIndexed f = reg f B
 unfoldable pub firstAddress : Mode → ℤ → File → ℕ
 firstAddress m d f = sum (baseOf m f) (bitsOf 16 d)
 
--- "P-relative accesses use the normal table; B- or X-relative ones, and the address after an indirect word, go by document 002's
--- rule": whether the alternate rule holds for the first address ..
+-- "P-relative accesses use the normal table; B- or X-relative ones, and the address after an indirect word, go by
+-- document 002's rule": whether the alternate rule holds for the first address ..
 abbrev pub firstRule : Mode → Bool
 firstRule PRelative = false
 firstRule BRelative = true
@@ -67,8 +69,10 @@ indirectAccess PIndirect d f = access Indirect (firstRule PIndirect) (firstAddre
 indirectAccess BIndirect d f = access Indirect (firstRule BIndirect) (firstAddress BIndirect d f) ∷ []
 indirectAccess XRelative d f = []
 indirectAccess BIndexed d f = []
-indirectAccess PIndirectIndexed d f = access Indirect (firstRule PIndirectIndexed) (firstAddress PIndirectIndexed d f) ∷ []
-indirectAccess BIndirectIndexed d f = access Indirect (firstRule BIndirectIndexed) (firstAddress BIndirectIndexed d f) ∷ []
+indirectAccess PIndirectIndexed d f =
+    access Indirect (firstRule PIndirectIndexed) (firstAddress PIndirectIndexed d f) ∷ []
+indirectAccess BIndirectIndexed d f =
+    access Indirect (firstRule BIndirectIndexed) (firstAddress BIndirectIndexed d f) ∷ []
 
 -- the effective address, with the indirect word i
 abbrev pub effectiveAddress : Mode → ℤ → File → ℕ → ℕ

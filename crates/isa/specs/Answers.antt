@@ -1,21 +1,24 @@
 -- Document 01, "What is sent back": each operation with its refusals, what it answers and what it leaves.
 use Prim.Native.Nat.{ℕ, _+_}
 use mathlib.Core.Bool.{Bool, cond, not, _&&_, _||_}
-use mathlib.Core.List.{List, [], _++_}
+use mathlib.Core.List.{List, [], _∷_, _++_}
 use lib.ListN.{take, drop, length}
 use lib.Dec.{ltb, leb, eqb}
-use Rattle.isa.specs.Machine.{withBit, inRange, sizesFit}
+use Rattle.isa.specs.Machine.{tableWords, withBit, inRange, sizesFit}
 use Rattle.isa.specs.System.{withPid}
 use Rattle.isa.specs.Step.{step, Turn}
 use Rattle.isa.specs.Run.{Run, runFrom}
-use Rattle.isa.specs.Images.{contents, bodies, contentsFit, entriesAnswer, namedWords, loadedWords, loadedState, imageOf, imageSize}
+use Rattle.isa.specs.Images.{Entry, contents, bodies, contentsFit, kindMemory, kindTables, knownKind, sizeOf}
+use Rattle.isa.specs.Images.{meetsAny, entriesAnswer, namedWords, loadedWords, loadedState, imageOf, imageSize}
 use Rattle.isa.specs.declared.machine.State.{State}
 use Rattle.isa.specs.declared.answer.Reason.{Reason}
 use Rattle.isa.specs.declared.answer.Reason.the-variants.{Stopped, Level, Spent, Interrupt}
 use Rattle.isa.specs.declared.answer.Target.{Target}
 use Rattle.isa.specs.declared.answer.Target.the-variants.{Memory, Tables}
 use Rattle.isa.specs.declared.answer.Refusal.{Refusal}
-use Rattle.isa.specs.declared.answer.Refusal.the-variants.{Sizes, State as StateRange, RaiseLevel, Contents, Kind, Target as TargetSize, Overlap, Bodies, View, Output}
+use Rattle.isa.specs.declared.answer.Refusal.the-variants.{Sizes, State as StateRange, RaiseLevel, Contents}
+use Rattle.isa.specs.declared.answer.Refusal.the-variants.{Kind, Target as TargetSize, Overlap, Bodies, View}
+use Rattle.isa.specs.declared.answer.Refusal.the-variants.{Output}
 use Rattle.isa.specs.declared.answer.StepAnswer.{StepAnswer}
 use Rattle.isa.specs.declared.answer.StepAnswer.the-variants.{Stepped, Refused as StepRefused}
 use Rattle.isa.specs.declared.answer.RunAnswer.{RunAnswer}
@@ -38,7 +41,7 @@ refusalNumber Bodies = 8
 refusalNumber View = 9
 refusalNumber Output = 10
 
--- 0 stands for "not refused"
+-- 0 where nothing was refused
 abbrev pub answerNumber : Answer → ℕ
 answerNumber Done = 0
 answerNumber (Refused r) = refusalNumber r
@@ -60,7 +63,8 @@ abbrev pub stepsTaken : RunAnswer → ℕ
 stepsTaken (Ran k w) = k
 stepsTaken (RunRefused r) = 0
 
--- "the reason is stopped, level, spent or interrupt", numbered in the order of the tests
+-- "the reason is stopped, level, spent or interrupt": document 01 has no numbers for them; ours (docs/DECISIONS.md,
+-- part 2, 13) are in the order of its tests
 abbrev pub reasonNumber : Reason → ℕ
 reasonNumber Stopped = 0
 reasonNumber Level = 1
@@ -69,7 +73,8 @@ reasonNumber Interrupt = 3
 
 -- ---- step and run
 
--- "Every operation first refuses 1"; "Step, and run: 2, a state out of the ranges above."
+-- "Every operation first refuses 1: memory or tables of another size than above."; "Step, and run .. 2, a state out of
+-- the ranges above."
 unfoldable pub stateAnswer : State → List ℕ → List ℕ → Answer
 stateAnswer s m t = cond (not (sizesFit m t)) (Refused Sizes) (cond (not (inRange s)) (Refused StateRange) Done)
 
@@ -104,7 +109,7 @@ runCallBy (Refused r) first n s m t = record { answer = RunRefused r; state = s;
 unfoldable pub stepCall : State → List ℕ → List ℕ → StepCall
 stepCall s m t = stepCallBy (stateAnswer s m t) s m t
 
--- through, or to the first interrupt; at most n steps
+-- run "through, or to the first interrupt as in demand 3"; at most n steps
 unfoldable pub runCall : Bool → ℕ → State → List ℕ → List ℕ → RunCall
 runCall first n s m t = runCallBy (stateAnswer s m t) first n s m t
 
@@ -114,7 +119,8 @@ runCall first n s m t = runCallBy (stateAnswer s m t) first n s m t
 abbrev pub deviceLevel : ℕ → Bool
 deviceLevel l = leb 10 l && leb l 13 || eqb l 15
 
--- "Raise, by a device, sets the level's PID bit: 2; 3"
+-- "Raise, by a device, sets the level's PID bit: 2; 3". Ruling 28: also of a stopped machine. Memory and tables are
+-- looked at for refusal 1 alone. The bit is set for a level that was not refused, so PID stays a word.
 abbrev pub raised : State → ℕ → State
 raised s l = record {
   regs = s .regs;
@@ -140,7 +146,7 @@ raiseCall s l m t = raiseCallBy (levelAnswer l (stateAnswer s m t)) s l
 
 -- ---- load
 
--- "Load: 4, contents short or over 32 entries; for each entry 5, 6, 7; 8, bodies other than exactly the rest; 2."
+-- "Load: 4, contents short or over 32 entries; for each entry 5 .. 6 .. 7 .. 8, bodies other than exactly the rest; 2."
 abbrev pub bodiesAnswer : List ℕ → Answer → Answer
 bodiesAnswer i (Refused r) = Refused r
 bodiesAnswer i Done =
@@ -163,8 +169,8 @@ abbrev pub loadCallBy : Answer → State → List ℕ → List ℕ → List ℕ 
 loadCallBy Done s i m t = record {
   answer = Done;
   state = loadedState i;
-  memory = loadedWords 1 (length m) i;
-  tables = loadedWords 4 256 i;
+  memory = loadedWords kindMemory (length m) i;
+  tables = loadedWords kindTables tableWords i;
 }
 loadCallBy (Refused r) s i m t = record { answer = Refused r; state = s; memory = m; tables = t }
 
@@ -191,7 +197,8 @@ writtenOutput s m t out = writtenBy (writeAnswer s m t out) s m t out
 
 -- ---- view
 
--- "View: 9, start plus length beyond its target's size. It answers a part of the caller's memory or of the caller's page tables."
+-- "View: 9, start plus length beyond its target's size. It answers a part of the caller's memory or of the caller's
+-- page tables." Ruling 28: the state is not tested.
 abbrev pub targetOf : Target → List ℕ → List ℕ → List ℕ
 targetOf Memory m t = m
 targetOf Tables m t = t
@@ -207,3 +214,79 @@ viewedBy (Refused r) l a n = []
 
 unfoldable pub viewed : Target → ℕ → ℕ → List ℕ → List ℕ → List ℕ
 viewed k a n m t = viewedBy (viewAnswer k a n m t) (targetOf k m t) a n
+
+-- ---- the same in this paper's numbers
+
+-- "there is a definition that gives this paper's number and values for each of its cases": the number, 0 where the call
+-- is performed, and the values beside it, none beside a refusal
+pub record Told : Type 0 where
+  pub number : ℕ
+  pub values : List ℕ
+
+abbrev pub answerNumbers : Answer → Told
+answerNumbers a = record { number = answerNumber a; values = [] }
+
+-- a step's value is the number of its interrupt, 0 if none
+abbrev pub stepValues : StepAnswer → List ℕ
+stepValues (Stepped n) = n ∷ []
+stepValues (StepRefused r) = []
+
+abbrev pub stepNumbers : StepAnswer → Told
+stepNumbers a = record { number = stepNumber a; values = stepValues a }
+
+-- a run's are the steps taken and the reason
+abbrev pub runValues : RunAnswer → List ℕ
+runValues (Ran k w) = k ∷ reasonNumber w ∷ []
+runValues (RunRefused r) = []
+
+abbrev pub runNumbers : RunAnswer → Told
+runNumbers a = record { number = runNumber a; values = runValues a }
+
+-- what is told after tests in order, each with the number that it refuses with: that of the first that holds, else 0
+-- and the values
+abbrev pub tellsBy : List (Bool × ℕ) → List ℕ → Told
+tellsBy [] vs = record { number = 0; values = vs }
+tellsBy (x ∷ xs) vs = cond (x .0) (record { number = x .1; values = [] }) (tellsBy xs vs)
+
+-- "Every operation first refuses 1"; "Step, and run .. 2, a state out of the ranges above."
+abbrev pub stateTests : State → List ℕ → List ℕ → List (Bool × ℕ)
+stateTests s m t = (not (sizesFit m t), 1) ∷ (not (inRange s), 2) ∷ []
+
+unfoldable pub stepTold : State → List ℕ → List ℕ → Told
+stepTold s m t = tellsBy (stateTests s m t) (step s m t .gave ∷ [])
+
+unfoldable pub runTold : Bool → ℕ → State → List ℕ → List ℕ → Told
+runTold first n s m t =
+    let r = runFrom first n 0 s m t in
+    tellsBy (stateTests s m t) (r .steps ∷ reasonNumber (r .reason) ∷ [])
+
+-- "Raise, by a device, sets the level's PID bit: 2; 3, a level other than 10 to 13 and 15."
+unfoldable pub raiseTold : State → ℕ → List ℕ → List ℕ → Told
+raiseTold s l m t = tellsBy (stateTests s m t ++ ((not (deviceLevel l), 3) ∷ [])) []
+
+-- "for each entry 5, unknown kind, 6, start plus length beyond its target's size, 7, covering a word already named"
+abbrev pub entryTests : ℕ → List Entry → List Entry → List (Bool × ℕ)
+entryTests words seen [] = []
+entryTests words seen (e ∷ es) =
+    (not (knownKind (e .kind)), 5)
+    ∷ (ltb (sizeOf words (e .kind)) (e .start + e .count), 6)
+    ∷ (meetsAny e seen, 7)
+    ∷ entryTests words (e ∷ seen) es
+
+-- "Load: 4, contents short or over 32 entries; for each entry .. 8, bodies other than exactly the rest; 2."
+unfoldable pub loadTold : List ℕ → List ℕ → List ℕ → Told
+loadTold i m t =
+    tellsBy
+    ((not (sizesFit m t), 1)
+    ∷ (not (contentsFit i), 4)
+    ∷ (entryTests (length m) [] (contents i)
+    ++ ((not (eqb (namedWords (contents i)) (length (bodies i))), 8) ∷ (not (inRange (loadedState i)), 2) ∷ [])))
+    []
+
+-- "Write: 2; 10, the lent output is too short"
+unfoldable pub writeTold : State → List ℕ → List ℕ → List ℕ → Told
+writeTold s m t out = tellsBy (stateTests s m t ++ ((ltb (length out) (imageSize m), 10) ∷ [])) []
+
+-- "View: 9, start plus length beyond its target's size"
+unfoldable pub viewTold : Target → ℕ → ℕ → List ℕ → List ℕ → Told
+viewTold k a n m t = tellsBy ((not (sizesFit m t), 1) ∷ (ltb (length (targetOf k m t)) (a + n), 9) ∷ []) []

@@ -1,16 +1,18 @@
--- Document 01, "Twelve cases shown with the definitions": one table, one theorem. Each row is what one step leaves, and what the
--- document says that it leaves.
+-- Document 01, "Twelve cases shown with the definitions": one table, one theorem. Each row is what one step leaves, and
+-- what the document says that it leaves.
 use Prim.Native.Nat.{ℕ, _+_}
 use mathlib.Core.Path.{_≡_, refl}
 use mathlib.Core.List.{List, [], _∷_, _++_}
 use lib.ListN.{getD, replicate}
 use Rattle.isa.specs.Machine.{fileAt, putFile}
 use Rattle.isa.specs.Flags.{adder, withOverflow, withSum, productOverflow, divisionFails, leftOnce, rightOnce}
-use Rattle.isa.specs.Decode.{byEnds, decode, traOf, trrOf, maskedOf, switchOf, srbOf, lrbOf, shiftOf}
+use Rattle.isa.specs.Decode.{byCode, byNumber, decode, traOf, trrOf, maskedOf, switchOf, srbOf, lrbOf, shiftOf}
 use Rattle.isa.specs.Address.{firstAddress}
 use Rattle.isa.specs.Instructions.{divided}
 use Rattle.isa.specs.Pages.{withinMemory, judged, inWindow, translate, marked, lowered}
-use Rattle.isa.specs.Step.{Turn, step, interrupted, faulted, finished, operandsTested, operands, indirectTested, userStage, examined, deposited, instructionStage, fetched, stepIn, putOther, blockStored, blockLoaded, farStage, settled, changeDue, levelChanged}
+use Rattle.isa.specs.Step.{Turn, step, interrupted, faulted, finished, operandsTested, operands, indirectTested}
+use Rattle.isa.specs.Step.{userStage, examined, deposited, instructionStage, fetched, stepIn, putOther}
+use Rattle.isa.specs.Step.{blockStored, blockLoaded, farStage, settled, changeDue, levelChanged}
 use Rattle.isa.specs.declared.machine.Control.{Control}
 use Rattle.isa.specs.declared.machine.State.{State}
 
@@ -93,17 +95,23 @@ cases =
     -- MPY 100000 by 1: 100000, O Q.
     ∷ (flagsAndA (bare 0 0 0o100000 0 0o120001 1), 0o60 ∷ 0o100000 ∷ [])
     -- MPY 181 by 181: no O; 182 by 181: 100256, O Q.
-    ∷ (flagsAndA (bare 0 0 181 0 0o120001 181) ++ flagsAndA (bare 0 0 182 0 0o120001 181), 0 ∷ 32761 ∷ 0o60 ∷ 0o100256 ∷ [])
+    ∷ (
+      flagsAndA (bare 0 0 181 0 0o120001 181) ++ flagsAndA (bare 0 0 182 0 0o120001 181),
+      0 ∷ 32761 ∷ 0o60 ∷ 0o100256 ∷ [],
+    )
     -- dr 077777, sr 177777: GRE skips, GEQ doesn't. dr is A, sr is D.
-    ∷ (register 2 (bare 0o177777 0 0o077777 0 0o141015 0) ∷ register 2 (bare 0o177777 0 0o077777 0 0o140415 0) ∷ [], 2 ∷ 1 ∷ [])
+    ∷ (
+      register 2 (bare 0o177777 0 0o077777 0 0o141015 0) ∷ register 2 (bare 0o177777 0 0o077777 0 0o140415 0) ∷ [],
+      2 ∷ 1 ∷ [],
+    )
     -- Arithmetic right shift by 1 of 100001: 140000, M.
     ∷ (flagsAndA (bare 0 0 0o100001 0 0o154477 0), 0o200 ∷ 0o140000 ∷ [])
     -- RDIV by 0: 5. The divisor is T; A and D stay, Z is set.
     ∷ (let r = bare 3 0 7 0 0o141660 0 in r .gave ∷ register 1 r ∷ flagsAndA r, 5 ∷ 3 ∷ 0o10 ∷ 7 ∷ [])
     -- Entry 000000: 3. The fetch fails: PGS bits 15 and 14, no mark.
     ∷ (faultSeen (paged 0 0 0 0), 3 ∷ 0o140000 ∷ 0 ∷ 0 ∷ [])
-    -- Store by entry 040000: 2, PGS bit 14 set. STA 2000 (indirect, by the next word) in virtual page 1; only the fetch's page
-    -- and the indirect word's are marked.
+    -- Store by entry 040000: 2, PGS bit 14 set. STA 2000 (indirect, by the next word) in virtual page 1; only the
+    -- fetch's page and the indirect word's are marked.
     ∷ (faultSeen (paged 0o005001 0o002000 0o060000 0o040000), 2 ∷ 0o040001 ∷ 0o064000 ∷ 0o040000 ∷ [])
     -- Ring 1 read by entry 163000: 2, bit 14 clear.
     ∷ (faultSeen (paged 0o045001 0o002000 0o060000 0o163000), 2 ∷ 1 ∷ 0o064000 ∷ 0o163000 ∷ [])
@@ -119,5 +127,8 @@ stated [] = []
 stated (r ∷ rs) = r .1 ∷ stated rs
 
 pub all-hold : given cases ≡ stated cases
-unfolding cases fileAt putFile adder withOverflow withSum productOverflow divisionFails leftOnce rightOnce byEnds decode traOf trrOf maskedOf switchOf srbOf lrbOf shiftOf firstAddress divided withinMemory judged inWindow translate marked lowered step interrupted faulted finished operandsTested operands indirectTested userStage examined deposited instructionStage fetched stepIn putOther blockStored blockLoaded farStage settled changeDue levelChanged
+unfolding cases fileAt putFile adder withOverflow withSum productOverflow divisionFails leftOnce rightOnce byCode
+    byNumber decode traOf trrOf maskedOf switchOf srbOf lrbOf shiftOf firstAddress divided withinMemory judged inWindow
+    translate marked lowered step interrupted faulted finished operandsTested operands indirectTested userStage examined
+    deposited instructionStage fetched stepIn putOther blockStored blockLoaded farStage settled changeDue levelChanged
 all-hold = refl

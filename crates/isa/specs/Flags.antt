@@ -4,13 +4,13 @@ use mathlib.Core.Bool.{Bool, true, false, cond, not, _||_}
 use lib.Dec.{ltb, leb, eqb}
 use lib.IntN.{ℤ, pos, negsuc, natAbs, _+ℤ_, _*ℤ_}
 use lib.Signed.{mag, leZ, quotZ, remZ}
-use Rattle.isa.specs.Machine.{flagOf, withBit, flagQ, flagO, flagC}
+use Rattle.isa.specs.Machine.{wordRange, allOnes, flagOf, withBit, flagQ, flagO, flagC}
 use Rattle.isa.specs.declared.instruction.Relation.{Relation}
 use Rattle.isa.specs.declared.instruction.Relation.the-variants.{Eql, Geq, Gre, Mgre, Ueq, Lss, Lst, Mlst}
 use Rattle.isa.specs.declared.instruction.ShiftKind.{ShiftKind}
 use Rattle.isa.specs.declared.instruction.ShiftKind.the-variants.{Arithmetic, Rotational, ZeroInput, LinkInput}
 
--- The signed meaning of the k bits n, in two's complement. (`negsuc n` is the whole number -(n + 1).)
+-- The signed meaning of the k bits n, in two's complement; n is below 2 ^ k. (`negsuc n` is the whole number -(n + 1).)
 abbrev pub signedOf : ℕ → ℕ → ℤ
 signedOf k n = cond (ltb n (2 ^ (k - 1))) (pos n) (negsuc (2 ^ k - suc n))
 
@@ -23,11 +23,12 @@ bitsOf k (negsuc n) = 2 ^ k - suc (n % 2 ^ k)
 abbrev pub tooLarge : ℤ → Bool
 tooLarge z = leb 32768 (mag z)
 
--- "the complement" of a word
+-- a word's complement, as in "SUB (A + complement + 1)"; a word is not above 65,535, so nothing is cut off
 abbrev pub complement : ℕ → ℕ
-complement w = 65535 - w
+complement w = allOnes - w
 
--- ADD, AAx and adding register operations, with any carry in: "C is the adder's carry, O the signed overflow".
+-- "ADD, SUB (A + complement + 1), AAx and adding register operations: C is the adder's carry, O the signed overflow";
+-- of two words, with a carry in of 0 or 1, so that the carry out is 0 or 1.
 pub record Sum : Type 0 where
   pub value : ℕ
   pub carry : ℕ
@@ -35,8 +36,8 @@ pub record Sum : Type 0 where
 
 unfoldable pub adder : ℕ → ℕ → ℕ → Sum
 adder a b c = record {
-  value = (a + b + c) % 65536;
-  carry = (a + b + c) / 65536;
+  value = (a + b + c) % wordRange;
+  carry = (a + b + c) / wordRange;
   overflow = flagOf (tooLarge (signedOf 16 a +ℤ signedOf 16 b +ℤ pos c));
 }
 
@@ -55,8 +56,8 @@ product a b = signedOf 16 a *ℤ signedOf 16 b
 unfoldable pub productOverflow : ℕ → ℕ → ℕ
 productOverflow a b = flagOf (ltb 32767 (natAbs (product a b)))
 
--- "RDIV: quotient toward zero in A, remainder with the dividend's sign in D. Divisor 0 or a quotient outside -32,768 to 32,767"
--- fails. The dividend is the 32 bits n, the divisor the 16 bits d.
+-- "RDIV: quotient toward zero in A, remainder with the dividend's sign in D. Divisor 0 or a quotient outside -32,768 to
+-- 32,767" fails. The dividend is the 32 bits n, the divisor the 16 bits d.
 abbrev pub quotient : ℕ → ℕ → ℤ
 quotient n d = quotZ (signedOf 32 n) (signedOf 16 d)
 
@@ -66,12 +67,13 @@ remainder n d = remZ (signedOf 32 n) (signedOf 16 d)
 unfoldable pub divisionFails : ℕ → ℕ → Bool
 divisionFails n d = eqb d 0 || tooLarge (quotient n d)
 
--- What is shifted: a value of some width, and M.
+-- Shifts, for any width from 1 on: single shifts, and so many of them. What is shifted: a value below 2 ^ width, and M.
 pub record Shifted : Type 0 where
   pub value : ℕ
   pub m : ℕ
 
--- One place to the left in a width: the top bit leaves, and a bit comes in at the lower end, by the kind.
+-- One place to the left in a width: the top bit leaves, and a bit comes in at the lower end, by the kind. Ruling 21:
+-- LIN takes M in. Decided by us (docs/DECISIONS.md, part 2, 2): an arithmetic shift to the left takes a 0 in.
 abbrev pub lowerInput : ShiftKind → ℕ → ℕ → ℕ
 lowerInput Arithmetic top m = 0
 lowerInput Rotational top m = top
@@ -101,19 +103,21 @@ abbrev pub once : Bool → ℕ → ShiftKind → Shifted → Shifted
 once true w k s = leftOnce w k s
 once false w k s = rightOnce w k s
 
--- So many single shifts. "M gets the last bit shifted out. Count 0 changes nothing."
+-- So many single shifts. "M gets the last bit shifted out. Count 0 changes nothing." Ruling 21: a count beyond the
+-- width is the single shift repeated, for every kind.
 abbrev pub placesBy : Bool → ℕ → ShiftKind → ℕ → Shifted → Shifted
 placesBy left w k zero s = s
 placesBy left w k (suc n) s = once left w k (placesBy left w k n s)
 
--- "The shift count is .. left when positive."
+-- "The shift count is bits 5-0, -32 to 31, left when positive."
 abbrev pub shiftBy : ℕ → ShiftKind → ℤ → Shifted → Shifted
 shiftBy w k n s = placesBy (leZ (pos 0) n) w k (natAbs n) s
 
--- "GEQ tests the sign of dr - sr in 16 bits; GRE is the true signed comparison." MGRE compares without signs (document 002:
--- C = 1 of dr - sr), and the other four are the complements.
+-- "GEQ tests the sign of dr - sr in 16 bits; GRE is the true signed comparison." By document 002 MGRE compares without
+-- signs (C = 1 of dr - sr), and the other four are the complements.
+-- s is a word, so 65,536 - s is not cut off; the sum drops its carry.
 abbrev pub wordDifference : ℕ → ℕ → ℕ
-wordDifference d s = (d + (65536 - s)) % 65536
+wordDifference d s = (d + (wordRange - s)) % wordRange
 
 abbrev pub compares : Relation → ℕ → ℕ → Bool
 compares Eql d s = eqb d s

@@ -1,4 +1,5 @@
--- The unprivileged instructions: the accesses that each asks for, and what it makes of the words read.
+-- The unprivileged instructions, by document 002 where nothing else is said: the accesses that each asks for, and what
+-- it makes of the words read.
 use Prim.Native.Nat.{ℕ, _+_, _-_, _*_, _/_, _%_, min, max}
 use mathlib.Core.Bool.{Bool, true, false, cond, not, _&&_}
 use mathlib.Core.List.{List, [], _∷_}
@@ -6,14 +7,18 @@ use lib.ListN.{getD}
 use lib.Dec.{leb, eqb}
 use lib.Bits.{bitAnd, bitOr, bitXor}
 use lib.IntN.{ℤ}
-use Rattle.isa.specs.Machine.{bit, withBit, reg, withReg, flag, withFlag, next, number, flagK, flagZ, flagC, flagM}
-use Rattle.isa.specs.Flags.{bitsOf, complement, Sum, adder, withSum, withOverflow, product, productOverflow, quotient, remainder, divisionFails, shiftBy, compares}
+use Rattle.isa.specs.Machine.{wordRange, allOnes, bit, withBit, reg, withReg, flag, withFlag, next, number}
+use Rattle.isa.specs.Machine.{flagK, flagZ, flagC, flagM}
+use Rattle.isa.specs.Flags.{bitsOf, complement, Sum, adder, withSum, withOverflow, product, productOverflow}
+use Rattle.isa.specs.Flags.{quotient, remainder, divisionFails, shiftBy, compares}
 use Rattle.isa.specs.Address.{sum, access, addressRule, indirectAccess, effectiveAddress, byteAddress}
 use Rattle.isa.specs.declared.machine.File.{File}
 use Rattle.isa.specs.declared.machine.Register.{Register}
 use Rattle.isa.specs.declared.machine.Register.the-variants.{Sts, D, P, B, L, A, T, X}
 use Rattle.isa.specs.declared.instruction.MemoryOp.{MemoryOp}
-use Rattle.isa.specs.declared.instruction.MemoryOp.the-variants.{Stz, Sta, Stt, Stx, Std, Ldd, Stf, Ldf, Min, Lda, Ldt, Ldx, Add, Sub, And, Ora, Mpy, Jmp, Jpl}
+use Rattle.isa.specs.declared.instruction.MemoryOp.the-variants.{Stz, Sta, Stt, Stx, Std, Ldd, Stf, Ldf, Min}
+use Rattle.isa.specs.declared.instruction.MemoryOp.the-variants.{Lda, Ldt, Ldx, Add, Sub, And, Ora, Mpy, Jmp}
+use Rattle.isa.specs.declared.instruction.MemoryOp.the-variants.{Jpl}
 use Rattle.isa.specs.declared.instruction.Condition.{Condition}
 use Rattle.isa.specs.declared.instruction.Condition.the-variants.{Jap, Jan, Jaz, Jaf, Jpc, Jnc, Jxz, Jxn}
 use Rattle.isa.specs.declared.instruction.LogicOp.{LogicOp}
@@ -26,16 +31,20 @@ use Rattle.isa.specs.declared.instruction.ShiftTarget.the-variants.{Sht,
 use Rattle.isa.specs.declared.instruction.Argument.{Argument}
 use Rattle.isa.specs.declared.instruction.Argument.the-variants.{ArgumentB, ArgumentA, ArgumentT, ArgumentX}
 use Rattle.isa.specs.declared.instruction.BitOp.{BitOp}
-use Rattle.isa.specs.declared.instruction.BitOp.the-variants.{SetZero, SetOne, SetComplement, SetK, SkipZero, SkipOne, SkipComplement, SkipK, Bstc, Bsta, Bldc, Blda, Banc, Band, Borc, Bora}
+use Rattle.isa.specs.declared.instruction.BitOp.the-variants.{SetZero, SetOne, SetComplement, SetK, SkipZero}
+use Rattle.isa.specs.declared.instruction.BitOp.the-variants.{SkipOne, SkipComplement, SkipK, Bstc, Bsta, Bldc}
+use Rattle.isa.specs.declared.instruction.BitOp.the-variants.{Blda, Banc, Band, Borc, Bora}
 use Rattle.isa.specs.declared.instruction.User.{User}
-use Rattle.isa.specs.declared.instruction.User.the-variants.{Memory, Jump, Skip, Logic, RegisterAdd, NoOperation, Shift, SetArgument, AddArgument, Bit, LoadByte, StoreByte, Mix3, Multiply, Divide}
+use Rattle.isa.specs.declared.instruction.User.the-variants.{Memory, Jump, Skip, Logic, RegisterAdd}
+use Rattle.isa.specs.declared.instruction.User.the-variants.{NoOperation, Shift, SetArgument, AddArgument, Bit}
+use Rattle.isa.specs.declared.instruction.User.the-variants.{LoadByte, StoreByte, Mix3, Multiply, Divide}
 use Rattle.isa.specs.declared.access.Access.{Access}
 use Rattle.isa.specs.declared.access.Kind.{Kind}
 use Rattle.isa.specs.declared.access.Kind.the-variants.{Read, Write}
 
 -- ---- which accesses, in order
 
--- one, two or three words from the address on, each an access of its own
+-- one, two or three words from the address on; ruling 6: each is an access of its own, by its own address
 abbrev pub oneWord : Kind → Bool → ℕ → List Access
 oneWord k r a = access k r a ∷ []
 
@@ -49,7 +58,8 @@ threeWords k r a = access k r a ∷ access k r (sum a 1) ∷ access k r (sum a 2
 abbrev pub readAndWrite : Bool → ℕ → List Access
 readAndWrite r a = access Read r a ∷ access Write r a ∷ []
 
--- a memory operation at its effective address, by the alternate rule or not; a jump makes no access at its target
+-- a memory operation at its effective address, by the alternate rule or not; ruling 24: a jump makes no access at its
+-- target
 abbrev pub memoryRequest : MemoryOp → Bool → ℕ → List Access
 memoryRequest Stz r a = oneWord Write r a
 memoryRequest Sta r a = oneWord Write r a
@@ -109,8 +119,8 @@ request (Divide s) f i = []
 
 -- ---- what is made of the words read
 
--- What an instruction completes with: the level's registers, the words to store, in the order of its writes, and whether it
--- gives the error interrupt, 5.
+-- What an instruction completes with: the level's registers, the words to store, in the order of its writes, and
+-- whether it gives the error interrupt, 5.
 pub record Completed : Type 0 where
   pub file : File
   pub stores : List ℕ
@@ -139,7 +149,8 @@ skipIf c f = cond c (next f) f
 abbrev pub incremented : File → ℕ → Completed
 incremented f w = storing (skipIf (eqb (sum w 1) 0) f) (sum w 1 ∷ [])
 
--- a memory operation in the file f, of which P is one further, with its effective address a and the words read
+-- A memory operation in the file f, of which P is one further, with its effective address a and the words read.
+-- There is one for each access of memoryRequest, so no default 0 of `getD` is taken.
 abbrev pub memoryCompletion : MemoryOp → File → ℕ → List ℕ → Completed
 memoryCompletion Stz f a ws = storing f (0 ∷ [])
 memoryCompletion Sta f a ws = storing f (reg f A ∷ [])
@@ -182,14 +193,15 @@ jumped Jnc a f = jumpIf (negative (sum (reg f X) 1)) a (countX f)
 jumped Jxz a f = jumpIf (eqb (reg f X) 0) a f
 jumped Jxn a f = jumpIf (negative (reg f X)) a f
 
--- "P .. read as a register operand .. is one further": so f has P one further. Operand 0 is the value 0.
+-- "read as a register operand it is one further, unless document 002 says otherwise": so f has P one further. Ruling
+-- 15: operand 0 is the value 0, not STS.
 abbrev pub isZero : Register → Bool
 isZero r = eqb (number r) 0
 
 abbrev pub operand : File → Register → ℕ
 operand f r = cond (isZero r) 0 (reg f r)
 
--- a result to a register; destination 0 takes none
+-- a result to a register; ruling 16: destination 0 takes none
 abbrev pub result : File → Register → ℕ → File
 result f r v = cond (isZero r) f (withReg f r v)
 
@@ -200,8 +212,8 @@ destinationOperand f cld d = cond cld 0 (operand f d)
 abbrev pub sourceOperand : File → Bool → Register → ℕ
 sourceOperand f cm1 s = cond cm1 (complement (operand f s)) (operand f s)
 
--- SWAP writes the destination, then the source; RAND, REXO, RORA write the destination. x is the source operand, y the
--- destination operand.
+-- Ruling 17: SWAP writes the destination, then the source; ruling 16: with destination 0 it does nothing. RAND, REXO
+-- and RORA write the destination. x is the source operand, y the destination operand.
 abbrev pub combined : LogicOp → File → ℕ → ℕ → Register → Register → File
 combined Swap f x y s d = cond (isZero d) f (result (result f d x) s y)
 combined Rand f x y s d = result f d (bitAnd y x)
@@ -214,7 +226,7 @@ carryIn NoCarry f = 0
 carryIn One f = 1
 carryIn Previous f = flag flagC f
 
--- "Destination 0: an adding operation clears C and changes nothing else."
+-- ruling 16: with destination 0 an adding operation clears C and changes nothing else
 abbrev pub added : File → Register → Sum → File
 added f d s = cond (isZero d) (withFlag flagC 0 f) (takes f d s)
 
@@ -226,8 +238,8 @@ shiftIn f r k n =
 
 abbrev pub shiftDouble : File → ShiftKind → ℤ → File
 shiftDouble f k n =
-    let s = shiftBy 32 k n (record { value = reg f A * 65536 + reg f D; m = flag flagM f }) in
-    withReg (withReg (withFlag flagM (s .m) f) A (s .value / 65536)) D (s .value % 65536)
+    let s = shiftBy 32 k n (record { value = reg f A * wordRange + reg f D; m = flag flagM f }) in
+    withReg (withReg (withFlag flagM (s .m) f) A (s .value / wordRange)) D (s .value % wordRange)
 
 abbrev pub shifted : File → ShiftTarget → ShiftKind → ℤ → File
 shifted f Sht k n = shiftIn f T k n
@@ -242,11 +254,13 @@ argumentRegister ArgumentA = A
 argumentRegister ArgumentT = T
 argumentRegister ArgumentX = X
 
--- Bit instructions: bit n of register r. "bit instructions never write" bits 8 to 15 of STS.
+-- Bit instructions: bit n of register r. "bits 8 to 15 of the full status word are control state, and bit instructions
+-- never write them"; ruling 20: register 0 is the file's STS.
 abbrev pub putBit : File → Register → ℕ → ℕ → File
 putBit f r n v = cond (isZero r && leb 8 n) f (withReg f r (withBit n v (reg f r)))
 
--- b is the bit, k the flag K
+-- b is the bit, k the flag K, each 0 or 1: `1 - b` is the complement, `min` is and, `max` is or. Ruling 19: BSKP BCM
+-- never skips; BSTC and BSTA write the bit, then K.
 abbrev pub bitCompletion : BitOp → File → Register → ℕ → ℕ → ℕ → File
 bitCompletion SetZero f r n b k = putBit f r n 0
 bitCompletion SetOne f r n b k = putBit f r n 1
@@ -265,33 +279,41 @@ bitCompletion Band f r n b k = withFlag flagK (min b k) f
 bitCompletion Borc f r n b k = withFlag flagK (max (1 - b) k) f
 bitCompletion Bora f r n b k = withFlag flagK (max b k) f
 
--- the bit's number has four bits
+-- A bit's number is below 16, since it is four bits of the instruction (Decode.fourOf); `% 16` only makes the
+-- definition total, as the type of a decoded instruction allows any number.
 abbrev pub bitDone : BitOp → File → ℕ → Register → File
 bitDone o f n r = bitCompletion o f r (n % 16) (bit (n % 16) (reg f r)) (flag flagK f)
 
--- "the even X being the upper byte"
+-- "the even X being the upper byte"; a byte is below 256
+abbrev pub byteRange : ℕ
+byteRange = 256
+
 abbrev pub evenX : File → Bool
 evenX f = eqb (reg f X % 2) 0
 
 abbrev pub loadedByte : File → ℕ → ℕ
-loadedByte f w = cond (evenX f) (w / 256) (w % 256)
+loadedByte f w = cond (evenX f) (w / byteRange) (w % byteRange)
 
 abbrev pub storedByte : File → ℕ → ℕ
-storedByte f w = cond (evenX f) (reg f A % 256 * 256 + w % 256) (w / 256 * 256 + reg f A % 256)
+storedByte f w =
+    cond (evenX f) (reg f A % byteRange * byteRange + w % byteRange)
+    (w / byteRange * byteRange + reg f A % byteRange)
 
--- MIX3: X is (A - 1) * 3
+-- MIX3: X is (A - 1) * 3 in 16 bits, where A - 1 is A + 177777; ruling 18: no flag changes
 abbrev pub mixed : File → File
-mixed f = withReg f X ((reg f A + 65535) * 3 % 65536)
+mixed f = withReg f X ((reg f A + allOnes) * 3 % wordRange)
 
--- RMPY: the 32 bits of the signed product in A and D; destination 0 does nothing
+-- RMPY: the 32 bits of the signed product in A and D; ruling 16: with destination 0 it does nothing; ruling 18: no flag
+-- changes
 abbrev pub registerProduct : File → Register → Register → File
 registerProduct f s d =
     let p = bitsOf 32 (product (operand f s) (operand f d)) in
-    cond (isZero d) f (withReg (withReg f A (p / 65536)) D (p % 65536))
+    cond (isZero d) f (withReg (withReg f A (p / wordRange)) D (p % wordRange))
 
--- RDIV: A and D by the source; a failing one "sets Z, leaves A and D, and gives interrupt 5"
+-- RDIV: A and D by the source; a failing one "sets Z, leaves A and D, and gives interrupt 5"; ruling 18: no other flag
+-- changes
 abbrev pub doubleOf : File → ℕ
-doubleOf f = reg f A * 65536 + reg f D
+doubleOf f = reg f A * wordRange + reg f D
 
 unfoldable pub divided : File → ℕ → Completed
 divided f d =
@@ -300,7 +322,8 @@ divided f d =
     (loads (withReg (withReg f A (bitsOf 16 (quotient n d))) D (bitsOf 16 (remainder n d))))
 
 -- The completion of an unprivileged instruction in the file f, with the indirect word i and the words read. Each begins
--- with P one further; the effective address and a jump's target count from the instruction's own address.
+-- with P one further; the effective address and a jump's target count from the instruction's own address. Ruling 16:
+-- with destination 0 a skip does nothing. Ruling 14: NoOperation is an adding operation with both ADC and AD1.
 abbrev pub complete : User → File → ℕ → List ℕ → Completed
 complete (Memory o m d) f i ws = memoryCompletion o (next f) (effectiveAddress m d f i) ws
 complete (Jump c d) f i ws = loads (jumped c (sum (reg f P) (bitsOf 16 d)) (next f))
@@ -313,7 +336,8 @@ complete (RegisterAdd c cld cm1 s d) f i ws =
 complete NoOperation f i ws = loads (next f)
 complete (Shift t k n) f i ws = loads (shifted (next f) t k n)
 complete (SetArgument r n) f i ws = loads (withReg (next f) (argumentRegister r) (bitsOf 16 n))
-complete (AddArgument r n) f i ws = loads (takes (next f) (argumentRegister r) (adder (reg f (argumentRegister r)) (bitsOf 16 n) 0))
+complete (AddArgument r n) f i ws =
+    loads (takes (next f) (argumentRegister r) (adder (reg f (argumentRegister r)) (bitsOf 16 n) 0))
 complete (Bit o n r) f i ws = loads (bitDone o (next f) n r)
 complete LoadByte f i ws = loads (withReg (next f) A (loadedByte f (getD ws 0 0)))
 complete StoreByte f i ws = storing (next f) (storedByte f (getD ws 0 0) ∷ [])

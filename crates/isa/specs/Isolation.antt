@@ -5,12 +5,12 @@ use mathlib.Core.Bool.{Bool, true, false, not, _&&_, _||_}
 use mathlib.Core.List.{List}
 use lib.ListN.{getD, length}
 use lib.Dec.{eqb}
-use Rattle.isa.specs.Machine.{flagOf, ringOf, normalTableOf, alternateTableOf}
+use Rattle.isa.specs.Machine.{pageWords, entriesInTable, flagOf, ringOf, normalTableOf, alternateTableOf}
 use Rattle.isa.specs.Pages.{Entry, entryAt, somePermit, ringAllows}
 use Rattle.isa.specs.declared.machine.State.{State}
 
--- "An entry permits its page to a ring if some permit is set and the entry's ring is not above that ring; for writing, if bit 15 is
--- set as well."
+-- "An entry permits its page to a ring if some permit is set and the entry's ring is not above that ring; for writing,
+-- if bit 15 is set as well."
 abbrev pub permits : Entry → ℕ → ℕ → Bool
 permits e ring page = somePermit e && ringAllows e ring && eqb (e .page) page
 
@@ -24,7 +24,7 @@ someBelow (suc n) f = f n || someBelow n f
 
 -- some entry of the tables a and b passes the test
 abbrev pub someEntry : (Entry → Bool) → List ℕ → ℕ → Bool
-someEntry f t table = someBelow 64 (λ v. f (entryAt t (table * 64 + v)))
+someEntry f t table = someBelow entriesInTable (λ v. f (entryAt t (table * entriesInTable + v)))
 
 unfoldable pub inEither : (Entry → Bool) → List ℕ → ℕ → ℕ → Bool
 inEither f t a b = someEntry f t a || someEntry f t b
@@ -36,8 +36,9 @@ permitted t a b ring page = inEither (λ e. permits e ring page) t a b
 abbrev pub permittedWriting : List ℕ → ℕ → ℕ → ℕ → ℕ → Bool
 permittedWriting t a b ring page = inEither (λ e. permitsWriting e ring page) t a b
 
--- "A start's level is control word 0, its ring bits 1-0 of that level's PCR, its two tables the normal and the alternate one named
--- there (they may be one)." A page that is permitted from the start s with the tables t, and one permitted for writing.
+-- "A start's level is control word 0, its ring bits 1-0 of that level's PCR, its two tables the normal and the
+-- alternate one named there (they may be one)." A page that is permitted from the start s with the tables t, and one
+-- permitted for writing. A level in range has its PCR.
 abbrev pub startPcr : State → ℕ
 startPcr s = getD (s .pcr) (s .level) 0
 
@@ -45,13 +46,15 @@ abbrev pub reachable : State → List ℕ → ℕ → Bool
 reachable s t page = permitted t (normalTableOf (startPcr s)) (alternateTableOf (startPcr s)) (ringOf (startPcr s)) page
 
 abbrev pub writable : State → List ℕ → ℕ → Bool
-writable s t page = permittedWriting t (normalTableOf (startPcr s)) (alternateTableOf (startPcr s)) (ringOf (startPcr s)) page
+writable s t page =
+    permittedWriting t (normalTableOf (startPcr s)) (alternateTableOf (startPcr s)) (ringOf (startPcr s)) page
 
--- "Both starts have equally much memory and are equal in .. each memory word outside the pages that no entry of the two tables
--- permits to the ring", the state and the tables being one.
+-- "Both starts have equally much memory and are equal in .. each memory word outside the pages that no entry of the two
+-- tables permits to the ring", the state and the tables being one. Past both memories' end k names no word, and `getD`
+-- gives 0 for both.
 pub record AlikeStarts (s : State) (t m n : List ℕ) : Type 0 where
   pub size : length m ≡ length n
-  pub same : (k : ℕ) → reachable s t (k / 1024) ≡ true → getD m k 0 ≡ getD n k 0
+  pub same : (k : ℕ) → reachable s t (k / pageWords) ≡ true → getD m k 0 ≡ getD n k 0
 
 -- "A word differs if the two memories hold different values at one physical address; the count is of such addresses."
 abbrev pub differs : List ℕ → List ℕ → ℕ → Bool

@@ -1,4 +1,9 @@
 -- Document 01, "The machine that is built".
+--
+-- Here and in all modules, only so that definitions are total: a place past a list's end reads 0 (`getD l i 0`) and is
+-- not written (`set`, `paste`), and `a - b` is 0 where b is above a. By a state's type and range and the sizes of lent
+-- words every place that the definitions name is there, and words are below 65,536. A cut to so many bits (`%`) that
+-- the documents do not have is explained where it stands.
 use Prim.Native.Nat.{ℕ, zero, suc, _+_, _*_, _/_, _%_, _^_, _<_}
 use mathlib.Core.Path.{_≡_}
 use mathlib.Core.Bool.{Bool, true, cond, _&&_}
@@ -13,6 +18,88 @@ use Rattle.isa.specs.declared.machine.Control.{Control}
 use Rattle.isa.specs.declared.machine.Core.{Core}
 use Rattle.isa.specs.declared.machine.State.{State}
 
+-- ---- numbers with names
+
+-- a word has 16 bits: it is below this
+abbrev pub wordRange : ℕ
+wordRange = 65536
+
+-- the word of sixteen ones
+abbrev pub allOnes : ℕ
+allOnes = 0o177777
+
+-- "Sixteen levels, each with eight registers of 16 bits": levels, registers of a level, and of all levels together
+abbrev pub levelCount : ℕ
+levelCount = 16
+
+abbrev pub fileSize : ℕ
+fileSize = 8
+
+abbrev pub registerWords : ℕ
+registerWords = 128
+
+-- "In a file STS is 0 to 255"
+abbrev pub statusRange : ℕ
+statusRange = 256
+
+-- "10 to 25 PCR of levels 0 to 15": the first PCR among the control words, and how many control words there are
+abbrev pub firstPcr : ℕ
+firstPcr = 10
+
+abbrev pub controlCount : ℕ
+controlCount = 26
+
+-- "Lent memory: words in pages of 1,024, at least one page, at most 524,288 words. Lent page tables: 256 words, four
+-- tables of 64 entries."
+abbrev pub pageWords : ℕ
+pageWords = 1024
+
+abbrev pub largestMemory : ℕ
+largestMemory = 524288
+
+abbrev pub tableWords : ℕ
+tableWords = 256
+
+abbrev pub entriesInTable : ℕ
+entriesInTable = 64
+
+-- "Addresses 177400 to 177777 are the page tables": the first of them
+abbrev pub windowStart : ℕ
+windowStart = 0o177400
+
+-- the internal interrupts: "MON gives interrupt 1"; "the needed permit missing .. interrupt 2"; "all three permits 0,
+-- interrupt 3"; "Other codes are illegal (interrupt 4)"; RDIV "gives interrupt 5"; "Privileged codes need ring 2 or 3
+-- after that, else interrupt 6"; "IOX, IOXT and IDENT give interrupt 7"; "page beyond the memory, interrupt 9"
+abbrev pub interruptMon : ℕ
+interruptMon = 1
+
+abbrev pub interruptProtection : ℕ
+interruptProtection = 2
+
+abbrev pub interruptPageFault : ℕ
+interruptPageFault = 3
+
+abbrev pub interruptIllegal : ℕ
+interruptIllegal = 4
+
+abbrev pub interruptError : ℕ
+interruptError = 5
+
+abbrev pub interruptPrivileged : ℕ
+interruptPrivileged = 6
+
+abbrev pub interruptIox : ℕ
+interruptIox = 7
+
+abbrev pub interruptOutOfRange : ℕ
+interruptOutOfRange = 9
+
+-- the level of internal interrupts: "PID bit 14 too", "T of level 14"
+abbrev pub internalLevel : ℕ
+internalLevel = 14
+
+-- ---- bits, registers, control words
+
 -- "Bit 0 is the lowest": bit n of a word, and the word with bit n set to v, which is 0 or 1.
 abbrev pub bit : ℕ → ℕ → ℕ
 bit n w = w / 2 ^ n % 2
@@ -24,7 +111,7 @@ withBit n v w = w / 2 ^ suc n * 2 ^ suc n + v * 2 ^ n + w % 2 ^ n
 abbrev pub flagOf : Bool → ℕ
 flagOf b = cond b 1 0
 
--- "eight registers of 16 bits numbered STS 0, D 1, P 2, B 3, L 4, A 5, T 6, X 7"
+-- "each with eight registers of 16 bits numbered STS 0, D 1, P 2, B 3, L 4, A 5, T 6, X 7"
 abbrev pub number : Register → ℕ
 number Sts = 0
 number D = 1
@@ -37,10 +124,31 @@ number X = 7
 
 -- "A level's registers are one file, and a write changes one place of it."
 abbrev pub reg : File → Register → ℕ
-reg f r = getD (f .words) (number r) 0
+reg f Sts = f .sts
+reg f D = f .d
+reg f P = f .p
+reg f B = f .b
+reg f L = f .l
+reg f A = f .a
+reg f T = f .t
+reg f X = f .x
 
 abbrev pub withReg : File → Register → ℕ → File
-withReg f r v = record { words = set (f .words) (number r) v }
+withReg f Sts v = record { sts = v; d = f .d; p = f .p; b = f .b; l = f .l; a = f .a; t = f .t; x = f .x }
+withReg f D v = record { sts = f .sts; d = v; p = f .p; b = f .b; l = f .l; a = f .a; t = f .t; x = f .x }
+withReg f P v = record { sts = f .sts; d = f .d; p = v; b = f .b; l = f .l; a = f .a; t = f .t; x = f .x }
+withReg f B v = record { sts = f .sts; d = f .d; p = f .p; b = v; l = f .l; a = f .a; t = f .t; x = f .x }
+withReg f L v = record { sts = f .sts; d = f .d; p = f .p; b = f .b; l = v; a = f .a; t = f .t; x = f .x }
+withReg f A v = record { sts = f .sts; d = f .d; p = f .p; b = f .b; l = f .l; a = v; t = f .t; x = f .x }
+withReg f T v = record { sts = f .sts; d = f .d; p = f .p; b = f .b; l = f .l; a = f .a; t = v; x = f .x }
+withReg f X v = record { sts = f .sts; d = f .d; p = f .p; b = f .b; l = f .l; a = f .a; t = f .t; x = v }
+
+-- the file whose registers are those that g gives, and a file's words in the order of their numbers
+abbrev pub fileBy : (Register → ℕ) → File
+fileBy g = record { sts = g Sts; d = g D; p = g P; b = g B; l = g L; a = g A; t = g T; x = g X }
+
+abbrev pub fileWords : File → List ℕ
+fileWords f = f .sts ∷ f .d ∷ f .p ∷ f .b ∷ f .l ∷ f .a ∷ f .t ∷ f .x ∷ []
 
 -- "STS holds eight flags: PTM bit 0, TG 1, K 2, Z 3, Q 4, O 5, C 6, M 7."
 abbrev pub flagPTM : ℕ
@@ -73,18 +181,19 @@ withFlag n v f = withReg f Sts (withBit n v (reg f Sts))
 
 -- the file with P one further; a sum drops the carry out of bit 15
 abbrev pub next : File → File
-next f = withReg f P ((reg f P + 1) % 65536)
+next f = withReg f P ((reg f P + 1) % wordRange)
 
--- "Sixteen levels": a level's eight words among all registers, and all registers with them replaced.
--- `paste b i ws 8` is b with its words i to i + 7 replaced by those of ws.
+-- "Sixteen levels": a level's file among all registers, and all registers with it replaced.
+-- `paste b i ws 8` is b with its words i to i + 7 replaced by those of ws. A level below 16 has all its words in b.
 unfoldable pub fileAt : List ℕ → ℕ → File
-fileAt b l = record { words = take 8 (drop (l * 8) b) }
+fileAt b l = fileBy (λ r. getD b (l * fileSize + number r) 0)
 
 unfoldable pub putFile : List ℕ → ℕ → File → List ℕ
-putFile b l f = paste b (l * 8) (f .words) 8
+putFile b l f = paste b (l * fileSize) (fileWords f) fileSize
 
--- "Control words, in image order: 0 level, 1 interrupts on, 2 paging on, 3 stopped, 4 PID, 5 PIE, 6 PVL, 7 IID, 8 IIE, 9 PGS,
--- 10 to 25 PCR of levels 0 to 15."
+-- "Control words, in image order: 0 level, 1 interrupts on, 2 paging on, 3 stopped .. 4 PID (pending levels), 5 PIE
+-- (enabled levels), 6 PVL (previous level), 7 IID (internal interrupts detected), 8 IIE (enabled), 9 PGS (paging
+-- status), 10 to 25 PCR of levels 0 to 15."
 abbrev pub controlWords : State → List ℕ
 controlWords s =
     s .level
@@ -99,7 +208,7 @@ controlWords s =
     ∷ s .control .pgs
     ∷ s .pcr
 
--- the state of 128 registers and 26 control words in image order
+-- the state of 128 registers and 26 control words in image order; a list of 26 has each that is taken
 abbrev pub stateOf : List ℕ → List ℕ → State
 stateOf rs cs = record {
   regs = rs;
@@ -115,13 +224,13 @@ stateOf rs cs = record {
     iie = getD cs 8 0;
     pgs = getD cs 9 0;
   };
-  pcr = drop 10 cs;
+  pcr = drop firstPcr cs;
 }
 
--- "In a file STS is 0 to 255."
+-- "In a file STS is 0 to 255": of the levels below l
 abbrev pub flagsFit : ℕ → List ℕ → Bool
 flagsFit zero b = true
-flagsFit (suc l) b = ltb (getD b (l * 8) 0) 256 && flagsFit l b
+flagsFit (suc l) b = ltb (getD b (l * fileSize) 0) statusRange && flagsFit l b
 
 -- "IID and IIE use bits 1 to 10"
 abbrev pub interruptBits : ℕ → Bool
@@ -142,22 +251,25 @@ pgsBits w = eqb (w / 256 % 64) 0
 -- the scalar control words in range: "1 to 3 are 0 or 1", "Level and PVL are 0 to 15"; "bits not used are 0"
 abbrev pub controlInRange : Control → Bool
 controlInRange c =
-    ltb (c .interrupts) 2 && ltb (c .paging) 2 && ltb (c .stopped) 2 && ltb (c .pvl) 16 && interruptBits (c .iid)
+    ltb (c .interrupts) 2 && ltb (c .paging) 2 && ltb (c .stopped) 2 && ltb (c .pvl) levelCount
+    && interruptBits (c .iid)
     && interruptBits (c .iie)
     && pgsBits (c .pgs)
 
--- a state in "the ranges above"
+-- a state in "the ranges above"; ruling 29: every value of PID, PIE, page tables, memory and registers other than STS
+-- is in range
 unfoldable pub inRange : State → Bool
-inRange s = ltb (s .level) 16 && controlInRange (s .control) && allPcrBits (s .pcr) && flagsFit 16 (s .regs)
+inRange s =
+    ltb (s .level) levelCount && controlInRange (s .control) && allPcrBits (s .pcr) && flagsFit levelCount (s .regs)
 
--- a word as "TRR drops" the bits not used: of IIE, and of a PCR
+-- "bits not used are 0, and TRR drops them": what is left of a word for IIE, and for a PCR
 abbrev pub interruptMask : ℕ → ℕ
 interruptMask w = w / 2 % 1024 * 2
 
 abbrev pub pcrMask : ℕ → ℕ
 pcrMask w = w / 128 % 16 * 128 + w % 4
 
--- "ring", "alternate table" and "normal table" of a PCR
+-- "bits 0-1 (ring), 7-8 (alternate table), 9-10 (normal table)" of a PCR
 abbrev pub ringOf : ℕ → ℕ
 ringOf p = p % 4
 
@@ -167,30 +279,30 @@ alternateTableOf p = p / 128 % 4
 abbrev pub normalTableOf : ℕ → ℕ
 normalTableOf p = p / 512 % 4
 
--- "Lent memory: words in pages of 1,024, at least one page, at most 524,288 words. Lent page tables: 256 words"
+-- "at least one page, at most 524,288 words"; lent page tables of "256 words"
 abbrev pub memorySize : ℕ → Bool
-memorySize n = eqb (n % 1024) 0 && leb 1024 n && leb n 524288
+memorySize n = eqb (n % pageWords) 0 && leb pageWords n && leb n largestMemory
 
 unfoldable pub sizesFit : List ℕ → List ℕ → Bool
-sizesFit m t = memorySize (length m) && eqb (length t) 256
+sizesFit m t = memorySize (length m) && eqb (length t) tableWords
 
--- each number of a list is a word
+-- each number of a list is a word; past its end `getD` gives 0, which is one
 abbrev pub Words : List ℕ → Type 0
-Words l = (i : ℕ) → getD l i 0 < 65536
+Words l = (i : ℕ) → getD l i 0 < wordRange
 
 -- what the types say of a state: so many registers and PCRs, and each number a word
 pub record Typed (s : State) : Type 0 where
-  pub regs-length : length (s .regs) ≡ 128
-  pub pcr-length : length (s .pcr) ≡ 16
+  pub regs-length : length (s .regs) ≡ registerWords
+  pub pcr-length : length (s .pcr) ≡ levelCount
   pub regs-words : Words (s .regs)
   pub control-words : Words (controlWords s)
 
--- The parts that the engine keeps apart: what the running level works on ..
+-- The parts that the engine keeps apart: what the running level works on (a level below 16 has its PCR) ..
 abbrev pub coreOf : State → Core
 coreOf s = record { file = fileAt (s .regs) (s .level); pcr = getD (s .pcr) (s .level) 0; control = s .control }
 
--- .. and their one packing: the state at level l whose running level's words are c, and whose other words are those of b
--- (registers) and p (PCRs)
+-- .. and their one packing: the state at level l whose running level's words are c, and whose other words are those of
+-- b (registers) and p (PCRs)
 abbrev pub pack : ℕ → Core → List ℕ → List ℕ → State
 pack l c b p = record { regs = putFile b l (c .file); level = l; control = c .control; pcr = set p l (c .pcr) }
 

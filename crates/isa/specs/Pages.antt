@@ -4,7 +4,9 @@ use mathlib.Core.Bool.{Bool, cond, not, _&&_, _||_}
 use mathlib.Core.List.{List, [], _∷_}
 use lib.ListN.{getD, set, drop}
 use lib.Dec.{ltb, leb, eqb}
-use Rattle.isa.specs.Machine.{bit, reg, flagPTM, ringOf, normalTableOf, alternateTableOf, withPcr}
+use Rattle.isa.specs.Machine.{pageWords, tableWords, entriesInTable, windowStart, interruptProtection}
+use Rattle.isa.specs.Machine.{interruptPageFault, interruptOutOfRange, bit, reg, flagPTM, ringOf, normalTableOf}
+use Rattle.isa.specs.Machine.{alternateTableOf, withPcr}
 use Rattle.isa.specs.declared.machine.Core.{Core}
 use Rattle.isa.specs.declared.machine.Register.the-variants.{Sts}
 use Rattle.isa.specs.declared.access.Access.{Access}
@@ -13,7 +15,8 @@ use Rattle.isa.specs.declared.access.Kind.the-variants.{Fetch, Read, Wri
 use Rattle.isa.specs.declared.access.Rights.{Rights}
 use Rattle.isa.specs.declared.access.Triple.{Triple}
 use Rattle.isa.specs.declared.access.Translation.{Translation}
-use Rattle.isa.specs.declared.access.Translation.the-variants.{NoAccess, Load, Store, LoadTable, StoreTable, Protection, PageFault, OutOfRange}
+use Rattle.isa.specs.declared.access.Translation.the-variants.{NoAccess, Load, Store, LoadTable, StoreTable}
+use Rattle.isa.specs.declared.access.Translation.the-variants.{Protection, PageFault, OutOfRange}
 
 -- "Entry: bit 15 write, 14 read, 13 fetch permitted, 12 WIP, 11 PGU, 10-9 ring, 8-0 physical page."
 pub record Entry : Type 0 where
@@ -36,9 +39,11 @@ entryOf e = record {
   page = e % 512;
 }
 
--- "four tables of 64 entries": where the entry of a virtual address stands, by the table; and the entry there
+-- "four tables of 64 entries": where the entry of a virtual address stands, by the table; and the entry there. The page
+-- of an address of 16 bits is below 64 and a table's number below 4, so each slot is one of the 256; `% 64` only keeps
+-- that for any number.
 abbrev pub slotOf : ℕ → ℕ → ℕ
-slotOf table a = table * 64 + a / 1024 % 64
+slotOf table a = table * entriesInTable + a / pageWords % entriesInTable
 
 abbrev pub entryAt : List ℕ → ℕ → Entry
 entryAt t i = entryOf (getD t i 0)
@@ -46,7 +51,7 @@ entryAt t i = entryOf (getD t i 0)
 abbrev pub somePermit : Entry → Bool
 somePermit e = e .write || e .read || e .fetch
 
--- "the needed permit .. (an indirect word needs read or fetch)"
+-- "the needed permit missing (an indirect word needs read or fetch)"
 abbrev pub needed : Entry → Kind → Bool
 needed e Fetch = e .fetch
 needed e Read = e .read
@@ -59,15 +64,20 @@ ringAllows e ring = leb (e .ring) ring
 
 -- the physical address by an entry
 abbrev pub physical : Entry → ℕ → ℕ
-physical e a = e .page * 1024 + a % 1024
+physical e a = e .page * pageWords + a % pageWords
 
--- "Interrupts 2 and 3 set PGS: bit 15 instruction fetch, 14 permit missing (so with every 3), 7-6 table, 5-0 virtual page." The
--- last two together are the entry's slot.
+-- "Interrupts 2 and 3 set PGS: bit 15 instruction fetch, 14 permit missing (so with every 3), 7-6 table, 5-0 virtual
+-- page." The last two together are the entry's slot. Ruling 7: an indirect word is no instruction fetch, and the table
+-- is the one that was used.
 abbrev pub fetchBit : Kind → ℕ
-fetchBit Fetch = 32768
+fetchBit Fetch = 0o100000
 fetchBit Read = 0
 fetchBit Write = 0
 fetchBit Indirect = 0
+
+-- "14 permit missing"
+abbrev pub missingBit : ℕ
+missingBit = 0o040000
 
 abbrev pub pagingStatus : Kind → ℕ → ℕ → ℕ
 pagingStatus k missing slot = fetchBit k + missing + slot
@@ -89,40 +99,42 @@ inTables Indirect i = LoadTable i
 unfoldable pub withinMemory : ℕ → Kind → ℕ → Translation
 withinMemory words k p = cond (ltb p words) (inMemory k p) OutOfRange
 
--- "Tests in order: all three permits 0, interrupt 3; the needed permit missing, interrupt 2; entry's ring above the user's,
--- interrupt 2; page beyond the memory, interrupt 9."
+-- "Tests in order: all three permits 0, interrupt 3; the needed permit missing .. interrupt 2; entry's ring above the
+-- user's, interrupt 2; page beyond the memory, interrupt 9."
 unfoldable pub judged : Entry → ℕ → ℕ → ℕ → Kind → ℕ → Translation
 judged e slot words ring k a =
-    cond (not (somePermit e)) (PageFault (pagingStatus k 16384 slot))
-    (cond (not (needed e k)) (Protection (pagingStatus k 16384 slot))
+    cond (not (somePermit e)) (PageFault (pagingStatus k missingBit slot))
+    (cond (not (needed e k)) (Protection (pagingStatus k missingBit slot))
     (cond (not (ringAllows e ring)) (Protection (pagingStatus k 0 slot)) (withinMemory words k (physical e a))))
 
 -- the table that an access goes by
 abbrev pub tableOf : Rights → Bool → ℕ
 tableOf r alternate = cond alternate (r .alternate) (r .normal)
 
--- "Addresses 177400 to 177777 are the page tables when paging is off or the ring is 3, for fetches too"
+-- "Addresses 177400 to 177777 are the page tables when paging is off or the ring is 3, for fetches too"; ruling 5: the
+-- ring is the one at the moment of the access
 unfoldable pub inWindow : Rights → ℕ → Bool
-inWindow r a = leb 0o177400 a && (not (r .paging) || eqb (r .ring) 3)
+inWindow r a = leb windowStart a && (not (r .paging) || eqb (r .ring) 3)
 
 -- One access, of a machine with so many words of memory. "With paging off all is permitted and addresses are physical."
+-- From 177400 on, `a % 256` is the place in the tables.
 unfoldable pub translate : List ℕ → ℕ → Rights → Access → Translation
 translate t words r x =
     let a = x .address in
     let i = slotOf (tableOf r (x .alternate)) a in
-    cond (inWindow r a) (inTables (x .kind) (a % 256))
+    cond (inWindow r a) (inTables (x .kind) (a % tableWords))
     (cond (r .paging) (judged (entryAt t i) i words (r .ring) (x .kind) a) (withinMemory words (x .kind) a))
 
--- the number of the interrupt that an access gives, 0 where it passed; and PGS after it
+-- the number of the interrupt that an access gives, 0 where it passed; and PGS after it (ruling 2: 9 leaves it)
 abbrev pub faultOf : Translation → ℕ
 faultOf NoAccess = 0
 faultOf (Load p) = 0
 faultOf (Store p) = 0
 faultOf (LoadTable i) = 0
 faultOf (StoreTable i) = 0
-faultOf (Protection g) = 2
-faultOf (PageFault g) = 3
-faultOf OutOfRange = 9
+faultOf (Protection g) = interruptProtection
+faultOf (PageFault g) = interruptPageFault
+faultOf OutOfRange = interruptOutOfRange
 
 abbrev pub pgsAfter : ℕ → Translation → ℕ
 pgsAfter old NoAccess = old
@@ -144,13 +156,15 @@ markOf Read e = e / 4096 * 4096 + 2048 + e % 2048
 markOf Write e = e / 8192 * 8192 + 6144 + e % 2048
 markOf Indirect e = e / 4096 * 4096 + 2048 + e % 2048
 
--- the tables after an access; in the window "with no mark"
+-- the tables after an access; in the window "with no mark or lowering"
 unfoldable pub marked : List ℕ → ℕ → Rights → Access → List ℕ
 marked t words r x =
     let i = slotOf (tableOf r (x .alternate)) (x .address) in
-    cond (r .paging && not (inWindow r (x .address)) && passes (translate t words r x)) (set t i (markOf (x .kind) (getD t i 0))) t
+    cond (r .paging && not (inWindow r (x .address)) && passes (translate t words r x))
+    (set t i (markOf (x .kind) (getD t i 0))) t
 
--- What a list of accesses leaves: the tables with their marks, where each goes, and the first fault, or NoAccess if all passed.
+-- What a list of accesses leaves: the tables with their marks, where each goes, and the first fault, or NoAccess if all
+-- passed.
 pub record Tested : Type 0 where
   pub tables : List ℕ
   pub places : List Translation
@@ -159,14 +173,15 @@ pub record Tested : Type 0 where
 abbrev pub alsoAt : Translation → Tested → Tested
 alsoAt x r = record { tables = r .tables; places = x ∷ r .places; fault = r .fault }
 
--- "accesses in order, all of them tested before the first store": one by one, up to the first that fails
+-- "then accesses in order, all of them tested before the first store": one by one, up to the first that fails. Ruling
+-- 1: the marks of those that passed stay. Ruling 5: later ones see the marks of earlier ones.
 abbrev pub testAll : List ℕ → ℕ → Rights → List Access → Tested
 testAll t words r [] = record { tables = t; places = []; fault = NoAccess }
 testAll t words r (x ∷ xs) =
     cond (passes (translate t words r x)) (alsoAt (translate t words r x) (testAll (marked t words r x) words r xs))
     (record { tables = t; places = []; fault = translate t words r x })
 
--- the words at the places, 0 where a place is not one to load from
+-- the words at the places; 0 where a place is not one to load from, which no completion looks at
 abbrev pub wordAt : List ℕ → List ℕ → Translation → ℕ
 wordAt m t NoAccess = 0
 wordAt m t (Load p) = getD m p 0
@@ -181,7 +196,8 @@ abbrev pub wordsAt : List ℕ → List ℕ → List Translation → List ℕ
 wordsAt m t [] = []
 wordsAt m t (x ∷ xs) = wordAt m t x ∷ wordsAt m t xs
 
--- memory and tables after words were stored, in order, at the places to store to
+-- Memory and tables after words were stored, in order, at the places to store to. A completion has as many words as its
+-- request has writes, so none is missing; a missing one would be 0.
 pub record Lent : Type 0 where
   pub memory : List ℕ
   pub tables : List ℕ
@@ -216,7 +232,7 @@ rightsBy sts p paging = record {
 abbrev pub rightsOf : Core → Rights
 rightsOf c = rightsBy (reg (c .file) Sts) (c .pcr) (c .control .paging)
 
--- "A passed fetch from a lower ring lowers the user's ring in PCR"; in the window no lowering
+-- "A passed fetch from a lower ring lowers the user's ring in PCR before the word is decoded"; a ring is below 4
 abbrev pub loweredPcr : ℕ → ℕ → ℕ
 loweredPcr p ring = p / 4 * 4 + ring
 

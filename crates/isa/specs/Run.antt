@@ -1,6 +1,6 @@
 -- Document 01, "What is sent back": run through, and run to the first interrupt.
 use Prim.Native.Nat.{ℕ, zero, suc}
-use mathlib.Core.Bool.{Bool, true, false, cond, not, _&&_}
+use mathlib.Core.Bool.{Bool, cond, not, _&&_}
 use mathlib.Core.List.{List}
 use lib.Dec.{eqb}
 use Rattle.isa.specs.Step.{step, Turn, isStopped, changeDue}
@@ -25,17 +25,11 @@ afterStep first rest k r =
     let on = rest (suc k) (r .state) (r .memory) (r .tables) in
     cond (first && not (eqb (r .gave) 0)) (ended Interrupt (suc k) (r .state) (r .memory) (r .tables)) on
 
--- "Before each step it tests stopped, then level (a change is due; second form only), then spent". At most n steps more,
--- after k; `first` is the second form, to the first interrupt.
+-- "Before each step it tests stopped, then level (a change is due; second form only), then spent". At most n steps
+-- more, after k; `first` is the second form, to the first interrupt.
 abbrev pub runFrom : Bool → ℕ → ℕ → State → List ℕ → List ℕ → Run
 runFrom first zero k s m t =
     cond (isStopped s) (ended Stopped k s m t) (cond (first && changeDue s) (ended Level k s m t) (ended Spent k s m t))
 runFrom first (suc n) k s m t =
     let on = afterStep first (runFrom first n) k (step s m t) in
     cond (isStopped s) (ended Stopped k s m t) (cond (first && changeDue s) (ended Level k s m t) on)
-
-abbrev pub runThrough : ℕ → State → List ℕ → List ℕ → Run
-runThrough n s m t = runFrom false n 0 s m t
-
-abbrev pub runToInterrupt : ℕ → State → List ℕ → List ℕ → Run
-runToInterrupt n s m t = runFrom true n 0 s m t

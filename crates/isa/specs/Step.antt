@@ -1,17 +1,22 @@
--- Document 01, "One step": stages over the running level, each taking what the one before found, and their packing into a state.
+-- Document 01, "One step": stages over the running level, each taking what the one before found, and their packing into
+-- a state.
 use Prim.Native.Nat.{ℕ, _+_, _*_, _%_}
 use mathlib.Core.Bool.{Bool, true, false, cond, not, _&&_, _||_}
 use mathlib.Core.List.{List, [], _∷_}
 use lib.ListN.{getD, set, length}
 use lib.Dec.{ltb, leb, eqb}
 use lib.Bits.{bitAnd}
-use Rattle.isa.specs.Machine.{bit, withBit, number, reg, withReg, next, nextCore, coreOf, withCore, withFile, withControl, ringOf, pcrMask}
+use Rattle.isa.specs.Machine.{wordRange, levelCount, fileSize, statusRange, internalLevel, interruptMon}
+use Rattle.isa.specs.Machine.{interruptIllegal, interruptError, interruptPrivileged, interruptIox, bit, withBit}
+use Rattle.isa.specs.Machine.{number, reg, withReg, next, nextCore, coreOf, withCore, withFile, withControl}
+use Rattle.isa.specs.Machine.{ringOf, pcrMask}
 use Rattle.isa.specs.Flags.{bitsOf}
 use Rattle.isa.specs.Decode.{decode, fourOf}
 use Rattle.isa.specs.Address.{sum, access}
 use Rattle.isa.specs.Instructions.{indirectRequest, request, complete, operand, Completed}
 use Rattle.isa.specs.System.{highestIn, withLevels, withPid, withInternal, controlled}
-use Rattle.isa.specs.Pages.{slotOf, entryAt, translate, marked, testAll, Tested, faultOf, pgsAfter, passes, wordAt, wordsAt, storeAll, rightsOf, lowered}
+use Rattle.isa.specs.Pages.{slotOf, entryAt, translate, marked, testAll, Tested, faultOf, pgsAfter, passes}
+use Rattle.isa.specs.Pages.{wordAt, wordsAt, storeAll, rightsOf, lowered}
 use Rattle.isa.specs.declared.machine.Control.{Control}
 use Rattle.isa.specs.declared.machine.Core.{Core}
 use Rattle.isa.specs.declared.machine.File.{File}
@@ -20,16 +25,20 @@ use Rattle.isa.specs.declared.machine.Register.{Register}
 use Rattle.isa.specs.declared.machine.Register.the-variants.{Sts, D, P, B, L, A, T, X}
 use Rattle.isa.specs.declared.instruction.User.{User}
 use Rattle.isa.specs.declared.instruction.System.{System}
-use Rattle.isa.specs.declared.instruction.System.the-variants.{Control as ControlOf, TraPgc, TrrPcr, Irr, Irw, Srb, Lrb, Exam, Depo, Iox, Ioxt, Ident}
+use Rattle.isa.specs.declared.instruction.System.the-variants.{Control as ControlOf, TraPgc, TrrPcr, Irr, Irw}
+use Rattle.isa.specs.declared.instruction.System.the-variants.{Srb, Lrb, Exam, Depo, Iox, Ioxt, Ident}
 use Rattle.isa.specs.declared.instruction.Instruction.{Instruction}
-use Rattle.isa.specs.declared.instruction.Instruction.the-variants.{Unprivileged, Privileged, Execute, Monitor, Illegal}
+use Rattle.isa.specs.declared.instruction.Instruction.the-variants.{Unprivileged, Privileged, Execute, Monitor}
+use Rattle.isa.specs.declared.instruction.Instruction.the-variants.{Illegal}
 use Rattle.isa.specs.declared.access.Access.{Access}
 use Rattle.isa.specs.declared.access.Kind.{Kind}
 use Rattle.isa.specs.declared.access.Kind.the-variants.{Fetch, Read, Write}
 use Rattle.isa.specs.declared.access.Translation.{Translation}
-use Rattle.isa.specs.declared.access.Translation.the-variants.{NoAccess, Load, Store, LoadTable, StoreTable, Protection, PageFault, OutOfRange}
+use Rattle.isa.specs.declared.access.Translation.the-variants.{NoAccess, Load, Store, LoadTable, StoreTable}
+use Rattle.isa.specs.declared.access.Translation.the-variants.{Protection, PageFault, OutOfRange}
 use Rattle.isa.specs.declared.answer.Far.{Far}
-use Rattle.isa.specs.declared.answer.Far.the-variants.{Nothing, Call, ReadRegister, WriteRegister, ReadPcr, WritePcr, StoreBlock, LoadBlock}
+use Rattle.isa.specs.declared.answer.Far.the-variants.{Nothing, Call, ReadRegister, WriteRegister, ReadPcr}
+use Rattle.isa.specs.declared.answer.Far.the-variants.{WritePcr, StoreBlock, LoadBlock}
 use Rattle.isa.specs.declared.answer.Near.{Near}
 
 -- ---- what a step leaves
@@ -55,25 +64,26 @@ turn s n m t = record { state = s; gave = n; memory = m; tables = t }
 
 -- ---- interrupts
 
--- "An interrupt sets its IID bit; if IIE has it, PID bit 14 too."
+-- "An interrupt sets its IID bit; if IIE has it, PID bit 14 too." Ruling 8: IIE as it is at that moment.
 abbrev pub detected : ℕ → Control → Control
 detected n k = withInternal k (withBit n 1 (k .iid)) (k .iie) (k .pgs)
 
 unfoldable pub interrupted : ℕ → Control → Control
-interrupted n k = cond (eqb (bit n (k .iie)) 1) (withPid (detected n k) (withBit 14 1 (k .pid))) (detected n k)
+interrupted n k =
+    cond (eqb (bit n (k .iie)) 1) (withPid (detected n k) (withBit internalLevel 1 (k .pid))) (detected n k)
 
 abbrev pub gives : ℕ → Core → Core
 gives n c = withControl c (interrupted n (c .control))
 
--- an access that failed: "Interrupts 2 and 3 set PGS"
+-- an access that failed: "Interrupts 2 and 3 set PGS". Decided by us (docs/DECISIONS.md, part 2, 3): PGS is not locked.
 abbrev pub withPgs : Control → Translation → Control
 withPgs k x = withInternal k (k .iid) (k .iie) (pgsAfter (k .pgs) x)
 
 unfoldable pub faulted : Translation → Core → Core
 faulted x c = gives (faultOf x) (withControl c (withPgs (c .control) x))
 
--- "An instruction that faults stores nothing and changes no register but P. Fetch faults leave P; all others leave it one
--- further." c is the core with P where it is left.
+-- "An instruction that faults .. stores nothing and changes no register but P. Fetch faults leave P; all others leave
+-- it one further." c is the core with P where it is left.
 abbrev pub failed : Core → Translation → List ℕ → List ℕ → Part
 failed c x m t = part (faulted x c) (faultOf x) Nothing m t
 
@@ -83,12 +93,12 @@ trapped n c m t = part (gives n c) n Nothing m t
 
 -- ---- an unprivileged instruction
 
--- the words are stored; RDIV's error gives interrupt 5
+-- the words are stored; RDIV's error "gives interrupt 5"; ruling 3: P is one further then too
 abbrev pub errorOf : Completed → ℕ
-errorOf d = cond (d .error) 5 0
+errorOf d = cond (d .error) interruptError 0
 
 abbrev pub finishedCore : Core → Completed → Core
-finishedCore c d = cond (d .error) (gives 5 (withFile c (d .file))) (withFile c (d .file))
+finishedCore c d = cond (d .error) (gives interruptError (withFile c (d .file))) (withFile c (d .file))
 
 unfoldable pub finished : Core → List ℕ → List ℕ → List Translation → Completed → Part
 finished c m t places d =
@@ -105,7 +115,7 @@ operandsTested c m u i r =
 unfoldable pub operands : Core → List ℕ → List ℕ → User → ℕ → Part
 operands c m t u i = operandsTested c m u i (testAll t (length m) (rightsOf c) (request u (c .file) i))
 
--- the access for the indirect word was tested
+-- the access for the indirect word was tested; without one the indirect word is 0, and nothing looks at it
 unfoldable pub indirectTested : Core → List ℕ → User → Tested → Part
 indirectTested c m u r =
     cond (passes (r .fault)) (operands c m (r .tables) u (getD (wordsAt m (r .tables) (r .places)) 0 0))
@@ -116,22 +126,25 @@ userStage c m t u = indirectTested c m u (testAll t (length m) (rightsOf c) (ind
 
 -- ---- a privileged instruction, on the core c with P one further
 
--- EXAM loads T from, and DEPO stores T in, the physical address A * 65,536 + D: "EXAM and DEPO reach memory only. For them ..
--- an address past the memory gives 9."
+-- EXAM loads T from, and DEPO stores T in, a physical address (ruling 23: A x 65,536 + D): "EXAM and DEPO reach memory
+-- only. For them, and with paging off, an address past the memory gives 9."
 abbrev pub physicalAddress : File → ℕ
-physicalAddress f = reg f A * 65536 + reg f D
+physicalAddress f = reg f A * wordRange + reg f D
 
+-- the word is there, since p is below the memory's size
 unfoldable pub examined : Core → List ℕ → List ℕ → Part
 examined c m t =
     let p = physicalAddress (c .file) in
-    cond (ltb p (length m)) (part (withFile c (withReg (c .file) T (getD m p 0))) 0 Nothing m t) (failed c OutOfRange m t)
+    cond (ltb p (length m)) (part (withFile c (withReg (c .file) T (getD m p 0))) 0 Nothing m t)
+    (failed c OutOfRange m t)
 
 unfoldable pub deposited : Core → List ℕ → List ℕ → Part
 deposited c m t =
     let p = physicalAddress (c .file) in
     cond (ltb p (length m)) (part c 0 Nothing (set m p (reg (c .file) T)) t) (failed c OutOfRange m t)
 
--- what is left to be done outside the level l, or done here. "No device is fitted: IOX, IOXT and IDENT give interrupt 7."
+-- what is left to be done outside the level l, or done here. "No device is fitted: IOX, IOXT and IDENT give interrupt
+-- 7."
 abbrev pub systemStage : ℕ → Core → List ℕ → List ℕ → System → Part
 systemStage l c m t (ControlOf o) = part (controlled l c o) 0 Nothing m t
 systemStage l c m t TraPgc = part c 0 ReadPcr m t
@@ -142,26 +155,29 @@ systemStage l c m t (Srb n) = part c 0 (StoreBlock n) m t
 systemStage l c m t (Lrb n) = part c 0 (LoadBlock n) m t
 systemStage l c m t Exam = examined c m t
 systemStage l c m t Depo = deposited c m t
-systemStage l c m t (Iox n) = trapped 7 c m t
-systemStage l c m t Ioxt = trapped 7 c m t
-systemStage l c m t (Ident n) = trapped 7 c m t
+systemStage l c m t (Iox n) = trapped interruptIox c m t
+systemStage l c m t Ioxt = trapped interruptIox c m t
+systemStage l c m t (Ident n) = trapped interruptIox c m t
 
--- "Privileged codes need ring 2 or 3 .., else interrupt 6. With paging off all is permitted"
+-- "Privileged codes need ring 2 or 3 after that, else interrupt 6. With paging off all is permitted"; ruling 24: so
+-- with paging off on every ring
 abbrev pub privileged : Core → Bool
 privileged c = not (eqb (c .control .paging) 1) || leb 2 (ringOf (c .pcr))
 
 -- ---- fetch and execute
 
--- "Order of faults: the fetch; illegal; privileged; then accesses". "MON gives interrupt 1 and puts its sign-extended number
--- into T of level 14."
+-- "Order of faults: the fetch; illegal; privileged; then accesses in order". "MON gives interrupt 1 and puts its
+-- sign-extended number into T of level 14."
 unfoldable pub instructionStage : ℕ → Core → List ℕ → List ℕ → Instruction → Part
 instructionStage l c m t (Unprivileged u) = userStage c m t u
-instructionStage l c m t (Privileged q) = cond (privileged c) (systemStage l (nextCore c) m t q) (trapped 6 (nextCore c) m t)
-instructionStage l c m t (Execute s) = trapped 4 (nextCore c) m t
-instructionStage l c m t (Monitor n) = part (gives 1 (nextCore c)) 1 (Call (bitsOf 16 n)) m t
-instructionStage l c m t Illegal = trapped 4 (nextCore c) m t
+instructionStage l c m t (Privileged q) =
+    cond (privileged c) (systemStage l (nextCore c) m t q) (trapped interruptPrivileged (nextCore c) m t)
+instructionStage l c m t (Execute s) = trapped interruptIllegal (nextCore c) m t
+instructionStage l c m t (Monitor n) = part (gives interruptMon (nextCore c)) interruptMon (Call (bitsOf 16 n)) m t
+instructionStage l c m t Illegal = trapped interruptIllegal (nextCore c) m t
 
--- EXR executes the word in its register. "An EXR whose register holds an EXR is illegal", as an instruction Execute is above.
+-- EXR executes the word in its register, under its own address (ruling 15: of register 0 the word 000000). "An EXR
+-- whose register holds an EXR is illegal", as an instruction Execute is above.
 abbrev pub executed : File → Instruction → Instruction
 executed f (Unprivileged u) = Unprivileged u
 executed f (Privileged q) = Privileged q
@@ -172,8 +188,9 @@ executed f Illegal = Illegal
 abbrev pub instructionOf : Core → ℕ → Instruction
 instructionOf c w = executed (c .file) (decode w)
 
--- "A passed fetch from a lower ring lowers the user's ring in PCR before the word is decoded": a fetch from memory by way of
--- an entry of that ring
+-- "A passed fetch from a lower ring lowers the user's ring in PCR before the word is decoded": a fetch from memory by
+-- way of an entry of that ring. A passed fetch loads, from memory or from the window; the other cases are there for any
+-- translation.
 abbrev pub afterFetch : Core → ℕ → Translation → Core
 afterFetch c ring NoAccess = c
 afterFetch c ring (Load p) = cond (eqb (c .control .paging) 1) (lowered c ring) c
@@ -188,7 +205,7 @@ unfoldable pub fetched : ℕ → Core → List ℕ → List ℕ → ℕ → Tran
 fetched l c m t ring x =
     cond (passes x) (instructionStage l (afterFetch c ring x) m t (instructionOf c (wordAt m t x))) (failed c x m t)
 
--- every fetch goes by the normal table
+-- ruling 24: every fetch goes by the normal table, and all accesses of a step by the PTM that it began with
 abbrev pub fetchOf : Core → Access
 fetchOf c = access Fetch false (reg (c .file) P)
 
@@ -206,16 +223,17 @@ withRegs s b = record { regs = b; level = s .level; control = s .control; pcr = 
 abbrev pub withPcrs : State → List ℕ → State
 withPcrs s p = record { regs = s .regs; level = s .level; control = s .control; pcr = p }
 
--- where register r of a level stands; a level has four bits
+-- Where register r of a level stands. Levels are below 16: the running one by its range, others as four bits of the
+-- instruction (Decode.fourOf); `% 16` only makes the definition total.
 abbrev pub placeOf : ℕ → Register → ℕ
-placeOf l r = l % 16 * 8 + number r
+placeOf l r = l % levelCount * fileSize + number r
 
 abbrev pub registerAt : State → ℕ → Register → ℕ
 registerAt s l r = getD (s .regs) (placeOf l r) 0
 
 -- "IRW, LRB and TRR of STS keep bits 7-0 only."
 abbrev pub kept : Register → ℕ → ℕ
-kept Sts w = w % 256
+kept Sts w = w % statusRange
 kept D w = w
 kept P w = w
 kept B w = w
@@ -227,18 +245,19 @@ kept X w = w
 abbrev pub putRegister : State → ℕ → Register → ℕ → State
 putRegister s l r w = withRegs s (set (s .regs) (placeOf l r) (kept r w))
 
--- P of the running level is not written by IRW and LRB
+-- ruling 22: P of the running level is not written by IRW and LRB; l is below 16, as in placeOf
 abbrev pub isP : Register → Bool
-isP r = eqb (number r) 2
+isP r = eqb (number r) (number P)
 
 unfoldable pub putOther : State → ℕ → Register → ℕ → State
-putOther s l r w = cond (eqb (l % 16) (s .level) && isP r) s (putRegister s l r w)
+putOther s l r w = cond (eqb (l % levelCount) (s .level) && isP r) s (putRegister s l r w)
 
--- a PCR's level is in A bits 6-3
+-- ruling 12: a PCR's level is in A bits 6-3; so it is below 16 and has its PCR
 abbrev pub pcrLevel : State → ℕ
 pcrLevel s = fourOf (registerAt s (s .level) A)
 
--- SRB and LRB: "P, X, T, A, D, L, STS, B", from the address in X on, by the alternate rule, each sum without its carry
+-- SRB and LRB: the registers in document 002's order, from the address in X on; ruling 22: by the alternate rule;
+-- ruling 6: each word an access of its own, each sum without its carry
 abbrev pub blockOrder : List Register
 blockOrder = P ∷ X ∷ T ∷ A ∷ D ∷ L ∷ Sts ∷ B ∷ []
 
@@ -253,6 +272,7 @@ abbrev pub blockWords : State → ℕ → List Register → List ℕ
 blockWords s l [] = []
 blockWords s l (r ∷ rs) = registerAt s l r ∷ blockWords s l rs
 
+-- as many words as registers; the second case is only there for any lists
 abbrev pub putBlock : State → ℕ → List Register → List ℕ → State
 putBlock s l [] ws = s
 putBlock s l (r ∷ rs) [] = s
@@ -275,10 +295,11 @@ blockLoaded s l m r =
 abbrev pub blockTested : Kind → State → List ℕ → List ℕ → Tested
 blockTested k s m t = testAll t (length m) (rightsOf (coreOf s)) (blockRequest k s)
 
--- what the running level left to be done, on the state in which P is one further
+-- What the running level left to be done, on the state in which P is one further; so IRR of P and SRB of the running
+-- level give P one further (ruling 22). Ruling 25: MON writes T of level 14 also when level 14 runs.
 unfoldable pub farStage : State → ℕ → List ℕ → List ℕ → Far → Turn
 farStage s n m t Nothing = turn s n m t
-farStage s n m t (Call w) = turn (putRegister s 14 T w) n m t
+farStage s n m t (Call w) = turn (putRegister s internalLevel T w) n m t
 farStage s n m t (ReadRegister l r) = turn (putRegister s (s .level) A (registerAt s l r)) n m t
 farStage s n m t (WriteRegister l r) = turn (putOther s l r (registerAt s (s .level) A)) n m t
 farStage s n m t ReadPcr = turn (putRegister s (s .level) A (getD (s .pcr) (pcrLevel s) 0)) n m t
@@ -292,11 +313,11 @@ settled s r = farStage (withCore s (r .near .core)) (r .near .gave) (r .memory) 
 
 -- ---- one step
 
--- "the highest level in PID and PIE (0 if none)"
+-- "the highest level in PID and PIE (0 if none)"; bit 0 plays no part in it
 abbrev pub highestLevel : Control → ℕ
 highestLevel k = highestIn 15 (bitAnd (k .pid) (k .pie))
 
--- "Interrupts on, and the highest level .. is not the running one": a change of level is due
+-- "Interrupts on, and the highest level in PID and PIE (0 if none) is not the running one": a change of level is due
 unfoldable pub changeDue : State → Bool
 changeDue s = eqb (s .control .interrupts) 1 && not (eqb (highestLevel (s .control)) (s .level))
 
@@ -312,7 +333,7 @@ levelChanged s = record {
 abbrev pub isStopped : State → Bool
 isStopped s = eqb (s .control .stopped) 1
 
--- "1. Stopped: nothing happens. 2. .. a change of level: that is the whole step. 3. Otherwise fetch and execute."
+-- "1. Stopped: nothing happens."; a change of level, and "That is the whole step."; "3. Otherwise fetch and execute."
 unfoldable pub step : State → List ℕ → List ℕ → Turn
 step s m t =
     cond (isStopped s) (turn s 0 m t)

@@ -3,7 +3,8 @@ use Prim.Native.Nat.{ℕ, zero, suc, _+_, _*_, _%_, _^_}
 use mathlib.Core.Bool.{cond}
 use lib.Dec.{eqb}
 use lib.Bits.{bitAnd, bitOr}
-use Rattle.isa.specs.Machine.{bit, withBit, reg, withReg, withFile, withControl, interruptMask}
+use Rattle.isa.specs.Machine.{levelCount, statusRange, bit, withBit, reg, withReg, withFile, withControl}
+use Rattle.isa.specs.Machine.{interruptMask}
 use Rattle.isa.specs.Flags.{complement}
 use Rattle.isa.specs.declared.machine.Control.{Control}
 use Rattle.isa.specs.declared.machine.Core.{Core}
@@ -11,13 +12,15 @@ use Rattle.isa.specs.declared.machine.Register.the-variants.{Sts, A}
 use Rattle.isa.specs.declared.instruction.Readable.{Readable}
 use Rattle.isa.specs.declared.instruction.Readable.the-variants.{Status, Pgs, Pvl, Iic, Pid, Pie, Actl}
 use Rattle.isa.specs.declared.instruction.Writable.{Writable}
-use Rattle.isa.specs.declared.instruction.Writable.the-variants.{Status as ToStatus, Iie as ToIie, Pid as ToPid, Pie as ToPie}
+use Rattle.isa.specs.declared.instruction.Writable.the-variants.{Status as ToStatus, Iie as ToIie, Pid as ToPid}
+use Rattle.isa.specs.declared.instruction.Writable.the-variants.{Pie as ToPie}
 use Rattle.isa.specs.declared.instruction.Maskable.{Maskable}
 use Rattle.isa.specs.declared.instruction.Maskable.the-variants.{Status as InStatus, Pid as InPid, Pie as InPie}
 use Rattle.isa.specs.declared.instruction.ControlOp.{ControlOp}
-use Rattle.isa.specs.declared.instruction.ControlOp.the-variants.{Ion, Iof, Pon, Pof, Pion, Piof, Wait, Tra, Trr, Mcl, Mst}
+use Rattle.isa.specs.declared.instruction.ControlOp.the-variants.{Ion, Iof, Pon, Pof, Pion, Piof, Wait, Tra}
+use Rattle.isa.specs.declared.instruction.ControlOp.the-variants.{Trr, Mcl, Mst}
 
--- the highest bit of w that is set, among bits n to 1; 0 if none is
+-- the highest bit of w that is set, among bits n to 1; 0 if none is, whatever bit 0 is
 abbrev pub highestIn : ℕ → ℕ → ℕ
 highestIn zero w = 0
 highestIn (suc n) w = cond (eqb (bit (suc n) w) 1) (suc n) (highestIn n w)
@@ -68,27 +71,31 @@ withPid k d = withLevels k d (k .pie) (k .pvl)
 abbrev pub withPie : Control → ℕ → Control
 withPie k e = withLevels k (k .pid) e (k .pvl)
 
--- "WAIT stops the machine with interrupts off; with them on it clears the running level's PID bit (level 0: no effect)."
+-- "WAIT stops the machine with interrupts off; with them on it clears the running level's PID bit (level 0: no
+-- effect)."
 abbrev pub waited : ℕ → Control → Control
 waited l k =
     cond (eqb (k .interrupts) 1) (cond (eqb l 0) k (withPid k (withBit l 0 (k .pid))))
     (withSwitches k (k .interrupts) (k .paging) 1)
 
--- the full status word: bit 15 interrupts on, 14 paging on, 13 zero, 12 one, 11-8 the level, 7-0 the flags, each in its bits
+-- Ruling 13, the full status word: bit 15 interrupts on, 14 paging on, 13 zero, 12 one, 11-8 the level, 7-0 the flags.
+-- In a state in range each is below the number that it is cut by; the cuts only make the result a word for any numbers.
 abbrev pub statusWord : ℕ → Control → ℕ → ℕ
-statusWord l k sts = k .interrupts % 2 * 32768 + k .paging % 2 * 16384 + 4096 + l % 16 * 256 + sts % 256
+statusWord l k sts =
+    k .interrupts % 2 * 0o100000 + k .paging % 2 * 0o040000 + 0o010000 + l % levelCount * 0o400 + sts % statusRange
 
--- TRA: what A gets at level l
+-- TRA: what A gets at level l. Ruling 12: PVL gives the word of IRR (previous level) DP, ACTL the level decoded.
+-- PVL is below 16; `% 16` only makes the result a word for any number.
 abbrev pub internalWord : ℕ → Core → Readable → ℕ
 internalWord l c Status = statusWord l (c .control) (reg (c .file) Sts)
 internalWord l c Pgs = c .control .pgs
-internalWord l c Pvl = 0o153602 + c .control .pvl % 16 * 8
+internalWord l c Pvl = 0o153602 + c .control .pvl % levelCount * 0o10
 internalWord l c Iic = highestIn 15 (c .control .iid)
 internalWord l c Pid = c .control .pid
 internalWord l c Pie = c .control .pie
 internalWord l c Actl = 2 ^ l
 
--- "TRA IIC gives the highest detected number, 0 if none, and clears IID."
+-- "TRA IIC gives the highest detected number, 0 if none, and clears IID.": all of it
 abbrev pub afterReading : Control → Readable → Control
 afterReading k Status = k
 afterReading k Pgs = k
@@ -101,14 +108,15 @@ afterReading k Actl = k
 abbrev pub read : ℕ → Core → Readable → Core
 read l c r = withControl (withFile c (withReg (c .file) A (internalWord l c r))) (afterReading (c .control) r)
 
--- the running level's STS, of which bits 7-0 alone are kept
+-- the running level's STS: "IRW, LRB and TRR of STS keep bits 7-0 only"; ruling 13: so do MCL and MST
 abbrev pub withSts : Core → ℕ → Core
-withSts c w = withFile c (withReg (c .file) Sts (w % 256))
+withSts c w = withFile c (withReg (c .file) Sts (w % statusRange))
 
--- TRR of A
+-- TRR of A; ruling 8: that of IIE never sets PID
 abbrev pub written : Core → Writable → Core
 written c ToStatus = withSts c (reg (c .file) A)
-written c ToIie = withControl c (withInternal (c .control) (c .control .iid) (interruptMask (reg (c .file) A)) (c .control .pgs))
+written c ToIie =
+    withControl c (withInternal (c .control) (c .control .iid) (interruptMask (reg (c .file) A)) (c .control .pgs))
 written c ToPid = withControl c (withPid (c .control) (reg (c .file) A))
 written c ToPie = withControl c (withPie (c .control) (reg (c .file) A))
 

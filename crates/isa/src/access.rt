@@ -14,8 +14,10 @@ pub struct Access {
     pub address: u16,
 }
 
-// What an access is judged by: paging, the user's ring, and the tables that the normal and the alternate rule name. The ring has
-// 32 bits for speed: a struct of eight bytes in all is copied as one number, and taken apart by shifts at each use.
+// What an access is judged by: paging, the user's ring, and the tables that the normal and the alternate rule name. In
+// document 01 a ring has two bits. The 32 bits are the compiler's choice, not the document's: with 16 the struct would
+// be eight bytes long, copied as one number and taken apart by shifts at each use, which is slower (docs/BENCHMARK.md).
+// No definition depends on the width: to them the ring is a number below 4 (Machine.ringOf).
 pub struct Rights {
     pub paging: bool,
     pub ring: u32,
@@ -30,8 +32,9 @@ pub struct Triple {
     pub c: u16,
 }
 
-// What comes of an access: none was made; a place in memory, or in the page tables, to load from or to store to;
-// or the fault: a missing permit or a ring too low, or no permit at all, each with the paging status; or a page beyond the memory.
+// What comes of an access: none was made; a place in memory, or in the page tables, to load from or to store to (an
+// index into the lent words); or the fault: a missing permit or a ring too low, or no permit at all, each with the
+// paging status; or a page beyond the memory.
 pub enum Translation {
     NoAccess,
     Load(usize),

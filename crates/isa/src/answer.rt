@@ -3,8 +3,8 @@ use crate::machine::Core;
 use crate::machine::Register;
 use crate::machine::State;
 
-// What an instruction leaves to be done outside its level: MON's number for level 14; a register of another level or a PCR,
-// to A or from A; a register block, to memory or from it.
+// What an instruction leaves to be done outside its level: MON's number for level 14; a register of another level or a
+// PCR, to A or from A; a register block, to memory or from it.
 pub enum Far {
     Nothing,
     Call(u16),
@@ -16,7 +16,8 @@ pub enum Far {
     LoadBlock(u16),
 }
 
-// What a step leaves of the running level: its words, the number of the interrupt that it gave, or 0, and what is left to be done.
+// What a step leaves of the running level: its words, the number of the interrupt that it gave, or 0, and what is left
+// to be done.
 pub struct Near {
     pub core: Core,
     pub gave: u16,
@@ -51,7 +52,8 @@ pub enum Refusal {
     Output,
 }
 
-// What is answered beside state, memory and tables: by a step, its interrupt's number or 0; by a run, steps taken and reason.
+// What is answered beside state, memory and tables: by a step, its interrupt's number or 0; by a run, steps taken and
+// reason.
 pub enum StepAnswer {
     Stepped(u16),
     Refused(Refusal),

@@ -119,7 +119,8 @@ pub enum BitOp {
     Bora,
 }
 
-// The unprivileged instructions, but for EXR and MON. Two registers stand as source, destination; two bools as CLD, CM1.
+// The unprivileged instructions, but for EXR and MON. Two registers stand as source, destination; two bools as CLD,
+// CM1.
 pub enum User {
     Memory(MemoryOp, Mode, i16),
     Jump(Condition, i16),
@@ -179,8 +180,10 @@ pub enum ControlOp {
     Mst(Maskable),
 }
 
-// The privileged instructions. A number is a level, or a device's address or line. IOX holds its address in 32 bits so that a
-// decoded instruction is not eight bytes long, which is slower (docs/BENCHMARK.md).
+// The privileged instructions. A number is a level, of four bits, or a device's address or line. IOX's address has
+// eleven bits in document 002. The 64 bits are the compiler's choice, not the document's: with them what an instruction
+// holds starts at byte 8, which is faster (docs/BENCHMARK.md). No definition depends on the width: the decoder gives
+// the low eleven bits of the word, and nothing looks at them as long as no device is fitted.
 pub enum System {
     Control(ControlOp),
     TraPgc,
@@ -191,7 +194,7 @@ pub enum System {
     Lrb(u16),
     Exam,
     Depo,
-    Iox(u32),
+    Iox(u64),
     Ioxt,
     Ident(u16),
 }

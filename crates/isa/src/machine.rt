@@ -1,7 +1,7 @@
 // What the machine keeps: registers, control words, and the parts that the engine keeps apart.
 ghost use mathlib.Core.Path.{_≡_};
 ghost use Prim.Native.Nat.{_<_};
-ghost use Rattle.isa.specs.Machine.{number, reg, withReg, next, withFile, withPcr, withControl, nextCore};
+ghost use Rattle.isa.specs.Machine.{number, reg, withReg, next, withFile, withPcr, withControl};
 
 // The registers of a level, in the order of their numbers 0 to 7.
 pub enum Register {
@@ -33,36 +33,72 @@ impl Register {
     }
 }
 
-// The words of a level's registers, in the order of their numbers.
-pub type Registers = [u16; 8];
-
 // A level's registers are one file, and a write changes one place of it.
 pub struct File {
-    pub words: Registers,
+    pub sts: u16,
+    pub d: u16,
+    pub p: u16,
+    pub b: u16,
+    pub l: u16,
+    pub a: u16,
+    pub t: u16,
+    pub x: u16,
 }
 
 impl File {
     pub fn get(self, r: Register) -> u16
         ensures { λ v. ⌜ v ≡ reg self r ⌝ }
     {
-        let n = r.index();
-        self.words[n]
+        match r {
+            Register::Sts => self.sts,
+            Register::D => self.d,
+            Register::P => self.p,
+            Register::B => self.b,
+            Register::L => self.l,
+            Register::A => self.a,
+            Register::T => self.t,
+            Register::X => self.x,
+        }
     }
 
     pub fn with(mut self, r: Register, v: u16) -> File
         ensures { λ f. ⌜ f ≡ withReg self r v ⌝ }
     {
-        let n = r.index();
-        self.words[n] = v;
+        match r {
+            Register::Sts => {
+                self.sts = v;
+            }
+            Register::D => {
+                self.d = v;
+            }
+            Register::P => {
+                self.p = v;
+            }
+            Register::B => {
+                self.b = v;
+            }
+            Register::L => {
+                self.l = v;
+            }
+            Register::A => {
+                self.a = v;
+            }
+            Register::T => {
+                self.t = v;
+            }
+            Register::X => {
+                self.x = v;
+            }
+        }
         self
     }
 
     // P one further; the sum drops the carry.
-    pub fn next(self) -> File
+    pub fn next(mut self) -> File
         ensures { λ f. ⌜ f ≡ next self ⌝ }
     {
-        let p = self.get(Register::P);
-        self.with(Register::P, std::num::wrapping_add_u16(p, 1))
+        self.p = std::num::wrapping_add_u16(self.p, 1);
+        self
     }
 }
 
@@ -127,13 +163,5 @@ impl Core {
             pcr: self.pcr,
             control: k,
         }
-    }
-
-    // P one further.
-    pub fn following(self) -> Core
-        ensures { λ c. ⌜ c ≡ nextCore self ⌝ }
-    {
-        let f = self.file;
-        self.with_file(f.next())
     }
 }

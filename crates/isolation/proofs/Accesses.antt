@@ -1,4 +1,5 @@
--- Accesses of a program on ring 0 or 1 with paging on: where those go that pass, and what all of them leave in the tables.
+-- Accesses of a program on ring 0 or 1 with paging on: where those go that pass, and what all of them leave in the
+-- tables.
 -- Assumes nothing.
 use Prim.Native.Nat.{ℕ, _+_, _*_, _/_, _%_, _<_, _≤_}
 use mathlib.Core.Path.{_≡_}
@@ -10,13 +11,15 @@ use lib.ListN.{getD, set}
 use lib.Dec.{eqb}
 use borrow.Author.Tests.{eq-eqb}
 use Rattle.isa.specs.Machine.{flag, flagPTM, ringOf, normalTableOf, alternateTableOf}
-use Rattle.isa.specs.Pages.{Entry, entryAt, judged, slotOf, tableOf, inWindow, translate, passes, markOf, marked, Tested, testAll, alsoAt, rightsOf}
+use Rattle.isa.specs.Pages.{Entry, entryAt, judged, slotOf, tableOf, inWindow, translate, passes, markOf, marked}
+use Rattle.isa.specs.Pages.{Tested, testAll, alsoAt, rightsOf}
 use Rattle.isa.specs.Isolation.{MarksAlone, permits, permitsWriting, permitted, permittedWriting}
 use Rattle.isa.specs.declared.machine.Core.{Core}
 use Rattle.isa.specs.declared.access.Access.{Access}
 use Rattle.isa.specs.declared.access.Rights.{Rights}
 use Rattle.isa.specs.declared.access.Translation.{Translation}
-use Rattle.isa.specs.declared.access.Translation.the-variants.{NoAccess, Load, Store, LoadTable, StoreTable, Protection, PageFault, OutOfRange}
+use Rattle.isa.specs.declared.access.Translation.the-variants.{NoAccess, Load, Store, LoadTable, StoreTable}
+use Rattle.isa.specs.declared.access.Translation.the-variants.{Protection, PageFault, OutOfRange}
 use Rattle.isa.proofs.Window.{no-window}
 use Rattle.isa.proofs.Marks.{Marked, mark-keeps}
 use Rattle.isa.proofs.Permits.{By, judged-by, either-table, permits-later, writing-later}
@@ -37,9 +40,11 @@ module _ (t₀ : List ℕ) (a b ρ : ℕ) where
     table : (x : Bool) → (tableOf r x ≡ a) ⊎ (tableOf r x ≡ b)
 
   held-rights : (c : Core) → Held c → HeldRights (rightsOf c)
-  held-rights c h = record { paging-on = eq-eqb (c .control .paging) 1 (h .paging-on); ring-low = h .ring-low; table = by-rule }
+  held-rights c h =
+      record { paging-on = eq-eqb (c .control .paging) 1 (h .paging-on); ring-low = h .ring-low; table = by-rule }
     where
-      by-ptm : (x : Bool) → (cond x (alternateTableOf (c .pcr)) (normalTableOf (c .pcr)) ≡ a) ⊎ (cond x (alternateTableOf (c .pcr)) (normalTableOf (c .pcr)) ≡ b)
+      by-ptm : (x : Bool) → (cond x (alternateTableOf (c .pcr)) (normalTableOf (c .pcr)) ≡ a)
+          ⊎ (cond x (alternateTableOf (c .pcr)) (normalTableOf (c .pcr)) ≡ b)
       by-ptm true = inr (h .alternate)
       by-ptm false = inl (h .normal)
 
@@ -65,9 +70,11 @@ module _ (t₀ : List ℕ) (a b ρ : ℕ) where
       by-allowed : (x : Translation) → By e ring x → Allowed x
       by-allowed NoAccess q = tt
       by-allowed (Load p) q =
-          either-table (λ (x : Entry). permits x ρ (p / 1024)) t₀ a b table v on low (permits-later e (entryAt t₀ (table * 64 + v)) ring ρ (p / 1024) h l q)
+          either-table (λ (x : Entry). permits x ρ (p / 1024)) t₀ a b table v on low
+          (permits-later e (entryAt t₀ (table * 64 + v)) ring ρ (p / 1024) h l q)
       by-allowed (Store p) q =
-          either-table (λ (x : Entry). permitsWriting x ρ (p / 1024)) t₀ a b table v on low (writing-later e (entryAt t₀ (table * 64 + v)) ring ρ (p / 1024) h l q)
+          either-table (λ (x : Entry). permitsWriting x ρ (p / 1024)) t₀ a b table v on low
+          (writing-later e (entryAt t₀ (table * 64 + v)) ring ρ (p / 1024) h l q)
       by-allowed (LoadTable i) q = q
       by-allowed (StoreTable i) q = q
       by-allowed (Protection g) q = tt
@@ -83,10 +90,13 @@ module _ (t₀ : List ℕ) (a b ρ : ℕ) where
     unfolding translate
     translate-allowed x =
         rw (closed (x .address), hr .paging-on)
-        (by-allowed (tableOf r (x .alternate)) (x .address / 1024 % 64) (entryAt t (slotOf (tableOf r (x .alternate)) (x .address))) (r .ring)
+        (by-allowed (tableOf r (x .alternate)) (x .address / 1024 % 64)
+        (entryAt t (slotOf (tableOf r (x .alternate)) (x .address))) (r .ring)
         (hr .table (x .alternate)) (omega arith) (hm (slotOf (tableOf r (x .alternate)) (x .address))) (hr .ring-low)
-        (judged (entryAt t (slotOf (tableOf r (x .alternate)) (x .address))) (slotOf (tableOf r (x .alternate)) (x .address)) words (r .ring) (x .kind) (x .address))
-        (judged-by (entryAt t (slotOf (tableOf r (x .alternate)) (x .address))) (slotOf (tableOf r (x .alternate)) (x .address)) words (r .ring) (x .kind) (x .address)))
+        (judged (entryAt t (slotOf (tableOf r (x .alternate)) (x .address)))
+        (slotOf (tableOf r (x .alternate)) (x .address)) words (r .ring) (x .kind) (x .address))
+        (judged-by (entryAt t (slotOf (tableOf r (x .alternate)) (x .address)))
+        (slotOf (tableOf r (x .alternate)) (x .address)) words (r .ring) (x .kind) (x .address)))
 
     marked-keeps : (x : Access) → Marked (marked t words r x) t₀
     unfolding marked
@@ -108,13 +118,16 @@ module _ (t₀ : List ℕ) (a b ρ : ℕ) where
     pub places : AllAllowed (r .places)
     pub marks : Marked (r .tables) t₀
 
-  tests-held : (words : ℕ) (r : Rights) → ρ ≤ 1 → HeldRights r → (xs : List Access) (t : List ℕ) → Marked t t₀ → HeldTests (testAll t words r xs)
+  tests-held : (words : ℕ) (r : Rights) → ρ ≤ 1 → HeldRights r → (xs : List Access) (t : List ℕ) → Marked t t₀
+      → HeldTests (testAll t words r xs)
   tests-held words r low hr [] t hm = record { places = none; marks = hm }
   tests-held words r low hr (x ∷ xs) t hm =
-      go (passes (translate t words r x)) (tests-held words r low hr xs (marked t words r x) (marked-keeps t words r low hm hr x))
+      go (passes (translate t words r x))
+      (tests-held words r low hr xs (marked t words r x) (marked-keeps t words r low hm hr x))
     where
       go : (y : Bool) → HeldTests (testAll (marked t words r x) words r xs)
-          → HeldTests (cond y (alsoAt (translate t words r x) (testAll (marked t words r x) words r xs)) (record { tables = t; places = []; fault = translate t words r x }))
+          → HeldTests (cond y (alsoAt (translate t words r x) (testAll (marked t words r x) words r xs))
+          (record { tables = t; places = []; fault = translate t words r x }))
       go true h = record { places = also (translate-allowed t words r low hm hr x) (h .places); marks = h .marks }
       go false h = record { places = none; marks = hm }
 

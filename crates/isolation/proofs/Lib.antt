@@ -3,3 +3,4 @@ pub mod Memories
 pub mod Stages
 pub mod Runs
 pub mod Theorem
+pub mod Pair

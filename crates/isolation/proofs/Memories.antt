@@ -1,4 +1,5 @@
--- Two memories that differ in foreign words alone, and one memory that is kept: what reading and storing at allowed places leaves.
+-- Two memories that differ in foreign words alone, and one memory that is kept: what reading and storing at allowed
+-- places leaves.
 -- Assumes nothing.
 use Prim.Native.Nat.{ℕ, _/_, _<_}
 use mathlib.Core.Path.{_≡_, refl, sym, ap, subst, _∙_}
@@ -11,7 +12,8 @@ use lib.Seq.{getD-set-same, getD-set-other, set-out}
 use Rattle.isa.specs.Pages.{wordAt, wordsAt, storeAll, Lent}
 use Rattle.isa.specs.Isolation.{permitted, permittedWriting}
 use Rattle.isa.specs.declared.access.Translation.{Translation}
-use Rattle.isa.specs.declared.access.Translation.the-variants.{NoAccess, Load, Store, LoadTable, StoreTable, Protection, PageFault, OutOfRange}
+use Rattle.isa.specs.declared.access.Translation.the-variants.{NoAccess, Load, Store, LoadTable, StoreTable}
+use Rattle.isa.specs.declared.access.Translation.the-variants.{Protection, PageFault, OutOfRange}
 use Rattle.isa.proofs.Tests.{no-both}
 use Rattle.isolation.proofs.Accesses.{Allowed, AllAllowed, also}
 
@@ -43,23 +45,33 @@ module _ (t₀ : List ℕ) (a b ρ : ℕ) where
 
   pub even-trans : (m n m′ n′ r q : List ℕ) → EvenMemories m n m′ n′ → EvenMemories m′ n′ r q → EvenMemories m n r q
   even-trans m n m′ n′ r q h l =
-      record { agree = l .agree; left = kept-trans m m′ r (h .left) (l .left); right = kept-trans n n′ q (h .right) (l .right) }
+      record {
+        agree = l .agree;
+        left = kept-trans m m′ r (h .left) (l .left);
+        right = kept-trans n n′ q (h .right) (l .right);
+      }
 
   -- one store of the same word in both
   set-agree : (m n : List ℕ) (p v : ℕ) → Agree m n → Agree (set m p v) (set n p v)
   set-agree m n p v h =
-      record { size = length-set m p v ∙ h .size ∙ sym (length-set n p v); same = λ k f. go k f (ℕ-discrete k p) (decLt p (length m)) }
+      record {
+        size = length-set m p v ∙ h .size ∙ sym (length-set n p v);
+        same = λ k f. go k f (ℕ-discrete k p) (decLt p (length m));
+      }
     where
-      go : (k : ℕ) → permitted t₀ a b ρ (k / 1024) ≡ true → Dec (k ≡ p) → Dec (p < length m) → getD (set m p v) k 0 ≡ getD (set n p v) k 0
+      go : (k : ℕ) → permitted t₀ a b ρ (k / 1024) ≡ true → Dec (k ≡ p) → Dec (p < length m)
+          → getD (set m p v) k 0 ≡ getD (set n p v) k 0
       go k f (no q) d = getD-set-other m p k v 0 q ∙ h .same k f ∙ sym (getD-set-other n p k v 0 q)
-      go k f (yes q) (yes l) = rw q (getD-set-same m p v 0 l ∙ sym (getD-set-same n p v 0 (subst (λ (x : ℕ). p < x) (h .size) l)))
+      go k f (yes q) (yes l) =
+          rw q (getD-set-same m p v 0 l ∙ sym (getD-set-same n p v 0 (subst (λ (x : ℕ). p < x) (h .size) l)))
       go k f (yes q) (no l) =
           ap (λ (x : List ℕ). getD x k 0) (set-out m p v (omega arith)) ∙ h .same k f
           ∙ sym (ap (λ (x : List ℕ). getD x k 0) (set-out n p v (omega (arith, h .size))))
 
   -- a store to a page that is permitted for writing
   set-kept : (m : List ℕ) (p v : ℕ) → permittedWriting t₀ a b ρ (p / 1024) ≡ true → Kept m (set m p v)
-  set-kept m p v h = record { size = length-set m p v; same = λ k f. getD-set-other m p k v 0 (λ q. no-both (sym (rw q at f) ∙ h)) }
+  set-kept m p v h =
+      record { size = length-set m p v; same = λ k f. getD-set-other m p k v 0 (λ q. no-both (sym (rw q at f) ∙ h)) }
 
   pub word-same : (m n t : List ℕ) (x : Translation) → Allowed t₀ a b ρ x → Agree m n → wordAt m t x ≡ wordAt n t x
   word-same m n t NoAccess h l = refl
@@ -71,10 +83,12 @@ module _ (t₀ : List ℕ) (a b ρ : ℕ) where
   word-same m n t (PageFault g) h l = refl
   word-same m n t OutOfRange h l = refl
 
-  pub words-same : (m n t : List ℕ) (xs : List Translation) → AllAllowed t₀ a b ρ xs → Agree m n → wordsAt m t xs ≡ wordsAt n t xs
+  pub words-same : (m n t : List ℕ) (xs : List Translation) → AllAllowed t₀ a b ρ xs → Agree m n
+      → wordsAt m t xs ≡ wordsAt n t xs
   words-same m n t [] h l = refl
   words-same m n t (x ∷ xs) (also h hs) l =
-      ap (λ (w : ℕ). w ∷ wordsAt m t xs) (word-same m n t x h l) ∙ ap (λ (ws : List ℕ). wordAt n t x ∷ ws) (words-same m n t xs hs l)
+      ap (λ (w : ℕ). w ∷ wordsAt m t xs) (word-same m n t x h l)
+      ∙ ap (λ (ws : List ℕ). wordAt n t x ∷ ws) (words-same m n t xs hs l)
 
   -- what storing the same words in both leaves
   pub record Stored (m n t : List ℕ) (r q : Lent) : Type 0 where
@@ -82,7 +96,8 @@ module _ (t₀ : List ℕ) (a b ρ : ℕ) where
     pub left-tables : r .tables ≡ t
     pub right-tables : q .tables ≡ t
 
-  stored-none : (m n t : List ℕ) → Agree m n → Stored m n t (record { memory = m; tables = t }) (record { memory = n; tables = t })
+  stored-none : (m n t : List ℕ) → Agree m n
+      → Stored m n t (record { memory = m; tables = t }) (record { memory = n; tables = t })
   stored-none m n t h = record { memories = even-refl m n h; left-tables = refl; right-tables = refl }
 
   stored-more : (m n m′ n′ t : List ℕ) (r q : Lent) → EvenMemories m n m′ n′ → Stored m′ n′ t r q → Stored m n t r q

@@ -15,7 +15,8 @@ use Rattle.isa.specs.Run.{Run, ended, afterStep, runFrom}
 use Rattle.isa.specs.declared.machine.State.{State}
 use Rattle.isa.specs.declared.machine.Core.{Core}
 use Rattle.isa.specs.declared.answer.Far.{Far}
-use Rattle.isa.specs.declared.answer.Far.the-variants.{Nothing, Call, ReadRegister, WriteRegister, ReadPcr, WritePcr, StoreBlock, LoadBlock}
+use Rattle.isa.specs.declared.answer.Far.the-variants.{Nothing, Call, ReadRegister, WriteRegister, ReadPcr, WritePcr}
+use Rattle.isa.specs.declared.answer.Far.the-variants.{StoreBlock, LoadBlock}
 use Rattle.isa.specs.declared.answer.Reason.{Reason}
 use Rattle.isa.specs.declared.answer.Reason.the-variants.{Stopped, Level, Spent, Interrupt}
 use Rattle.isa.proofs.Marks.{Marked}
@@ -31,10 +32,20 @@ module _ (t₀ : List ℕ) (a b ρ : ℕ) where
       go : Dec (s .level < length (s .pcr)) → Held t₀ a b ρ (coreOf (withCore s c))
       go (yes q) =
           let w = getD-set-same (s .pcr) (s .level) (c .pcr) 0 q in
-          record { paging-on = hc .paging-on; ring-low = rw w (hc .ring-low); normal = rw w (hc .normal); alternate = rw w (hc .alternate) }
+          record {
+            paging-on = hc .paging-on;
+            ring-low = rw w (hc .ring-low);
+            normal = rw w (hc .normal);
+            alternate = rw w (hc .alternate);
+          }
       go (no q) =
           let w = set-out (s .pcr) (s .level) (c .pcr) (omega arith) in
-          record { paging-on = hc .paging-on; ring-low = rw w (hs .ring-low); normal = rw w (hs .normal); alternate = rw w (hs .alternate) }
+          record {
+            paging-on = hc .paging-on;
+            ring-low = rw w (hs .ring-low);
+            normal = rw w (hs .normal);
+            alternate = rw w (hs .alternate);
+          }
 
   -- what a step leaves from the memories m and n
   record EvenTurn (m n : List ℕ) (r q : Turn) : Type 0 where
@@ -46,7 +57,8 @@ module _ (t₀ : List ℕ) (a b ρ : ℕ) where
     held : Held t₀ a b ρ (coreOf (r .state))
 
   -- what is left to be done outside the level touches no memory and nothing that confines the level
-  far-even : (s : State) (g : ℕ) (m n m′ n′ t : List ℕ) (far : Far) → Local far → EvenMemories t₀ a b ρ m n m′ n′ → Marked t t₀
+  far-even : (s : State) (g : ℕ) (m n m′ n′ t : List ℕ) (far : Far) → Local far → EvenMemories t₀ a b ρ m n m′ n′
+      → Marked t t₀
       → Held t₀ a b ρ (coreOf s) → EvenTurn m n (farStage s g m′ t far) (farStage s g n′ t far)
   unfolding farStage
   far-even s g m n m′ n′ t Nothing hf h hm hs =
@@ -57,7 +69,8 @@ module _ (t₀ : List ℕ) (a b ρ : ℕ) where
     tables = refl;
     memories = h;
     marks = hm;
-    held = record { paging-on = hs .paging-on; ring-low = hs .ring-low; normal = hs .normal; alternate = hs .alternate };
+    held =
+        record { paging-on = hs .paging-on; ring-low = hs .ring-low; normal = hs .normal; alternate = hs .alternate };
   }
   far-even s g m n m′ n′ t (ReadRegister x r) hf h hm hs = absurd hf
   far-even s g m n m′ n′ t (WriteRegister x r) hf h hm hs = absurd hf
@@ -66,25 +79,39 @@ module _ (t₀ : List ℕ) (a b ρ : ℕ) where
   far-even s g m n m′ n′ t (StoreBlock x) hf h hm hs = absurd hf
   far-even s g m n m′ n′ t (LoadBlock x) hf h hm hs = absurd hf
 
-  settled-even : (s : State) (m n : List ℕ) (r q : Part) → Held t₀ a b ρ (coreOf s) → Even t₀ a b ρ m n r q → EvenTurn m n (settled s r) (settled s q)
+  settled-even : (s : State) (m n : List ℕ) (r q : Part) → Held t₀ a b ρ (coreOf s) → Even t₀ a b ρ m n r q
+      → EvenTurn m n (settled s r) (settled s q)
   unfolding settled
   settled-even s m n r q hs e =
       rw (← e .near, ← e .tables)
-      (far-even (withCore s (r .near .core)) (r .near .gave) m n (r .memory) (q .memory) (r .tables) (r .near .far) (e .local) (e .memories) (e .marks) (put-held s (r .near .core) hs (e .held)))
+      (far-even (withCore s (r .near .core)) (r .near .gave) m n (r .memory) (q .memory) (r .tables) (r .near .far)
+      (e .local) (e .memories) (e .marks) (put-held s (r .near .core) hs (e .held)))
 
   -- a run stops where a change of level is due, so a step that it makes is one of the level, or of a stopped machine
-  step-even : ρ ≤ 1 → (s : State) (m n t : List ℕ) → changeDue s ≡ false → Held t₀ a b ρ (coreOf s) → Agree t₀ a b ρ m n → Marked t t₀
+  step-even : ρ ≤ 1 → (s : State) (m n t : List ℕ) → changeDue s ≡ false → Held t₀ a b ρ (coreOf s) → Agree t₀ a b ρ m n
+      → Marked t t₀
       → EvenTurn m n (step s m t) (step s n t)
   unfolding step
   step-even low s m n t due hs h hm =
       rw due
-      (go (isStopped s) (settled-even s m n (stepIn (s .level) (coreOf s) m t) (stepIn (s .level) (coreOf s) n t) hs (level-even t₀ a b ρ m n h low (s .level) (coreOf s) hs t hm)))
+      (go (isStopped s) (settled-even s m n (stepIn (s .level) (coreOf s) m t) (stepIn (s .level) (coreOf s) n t) hs
+      (level-even t₀ a b ρ m n h low (s .level) (coreOf s) hs t hm)))
     where
-      go : (x : Bool) → EvenTurn m n (settled s (stepIn (s .level) (coreOf s) m t)) (settled s (stepIn (s .level) (coreOf s) n t))
-          → EvenTurn m n (cond x (record { state = s; gave = 0; memory = m; tables = t }) (settled s (stepIn (s .level) (coreOf s) m t)))
-          (cond x (record { state = s; gave = 0; memory = n; tables = t }) (settled s (stepIn (s .level) (coreOf s) n t)))
+      go : (x : Bool) → EvenTurn m n (settled s (stepIn (s .level) (coreOf s) m t))
+          (settled s (stepIn (s .level) (coreOf s) n t))
+          → EvenTurn m n (cond x (record { state = s; gave = 0; memory = m; tables = t })
+          (settled s (stepIn (s .level) (coreOf s) m t)))
+          (cond x (record { state = s; gave = 0; memory = n; tables = t })
+          (settled s (stepIn (s .level) (coreOf s) n t)))
       go true e =
-          record { state = refl; gave = refl; tables = refl; memories = even-refl t₀ a b ρ m n h; marks = hm; held = hs }
+          record {
+            state = refl;
+            gave = refl;
+            tables = refl;
+            memories = even-refl t₀ a b ρ m n h;
+            marks = hm;
+            held = hs;
+          }
       go false e = e
 
   -- what a run leaves
@@ -98,7 +125,9 @@ module _ (t₀ : List ℕ) (a b ρ : ℕ) where
 
   -- the rest of a run, from any two memories that agree
   abbrev EvenRest : (ℕ → State → List ℕ → List ℕ → Run) → Type 0
-  EvenRest f = (k : ℕ) (s : State) (m n t : List ℕ) → Held t₀ a b ρ (coreOf s) → Agree t₀ a b ρ m n → Marked t t₀ → EvenRun m n (f k s m t) (f k s n t)
+  EvenRest f =
+      (k : ℕ) (s : State) (m n t : List ℕ) → Held t₀ a b ρ (coreOf s) → Agree t₀ a b ρ m n → Marked t t₀
+      → EvenRun m n (f k s m t) (f k s n t)
 
   ended-even : (w : Reason) (k : ℕ) (s : State) (m n m′ n′ t : List ℕ) → EvenMemories t₀ a b ρ m n m′ n′ → Marked t t₀
       → EvenRun m n (ended w k s m′ t) (ended w k s n′ t)
@@ -115,26 +144,33 @@ module _ (t₀ : List ℕ) (a b ρ : ℕ) where
     marks = e .marks;
   }
 
-  after-even : (f : ℕ → State → List ℕ → List ℕ → Run) → EvenRest f → (k : ℕ) (m n : List ℕ) (r q : Turn) → EvenTurn m n r q
+  after-even : (f : ℕ → State → List ℕ → List ℕ → Run) → EvenRest f → (k : ℕ) (m n : List ℕ) (r q : Turn)
+      → EvenTurn m n r q
       → EvenRun m n (afterStep true f k r) (afterStep true f k q)
   after-even f hf k m n r q e = rw (← e .state, ← e .gave, ← e .tables) (go (not (eqb (r .gave) 0)))
     where
       go : (x : Bool)
-          → EvenRun m n (cond x (ended Interrupt (suc k) (r .state) (r .memory) (r .tables)) (f (suc k) (r .state) (r .memory) (r .tables)))
-          (cond x (ended Interrupt (suc k) (r .state) (q .memory) (r .tables)) (f (suc k) (r .state) (q .memory) (r .tables)))
+          → EvenRun m n (cond x (ended Interrupt (suc k) (r .state) (r .memory) (r .tables))
+          (f (suc k) (r .state) (r .memory) (r .tables)))
+          (cond x (ended Interrupt (suc k) (r .state) (q .memory) (r .tables))
+          (f (suc k) (r .state) (q .memory) (r .tables)))
       go true = ended-even Interrupt (suc k) (r .state) m n (r .memory) (q .memory) (r .tables) (e .memories) (e .marks)
       go false =
-          later m n (r .memory) (q .memory) (f (suc k) (r .state) (r .memory) (r .tables)) (f (suc k) (r .state) (q .memory) (r .tables))
-          (e .memories) (hf (suc k) (r .state) (r .memory) (q .memory) (r .tables) (e .held) (e .memories .agree) (e .marks))
+          later m n (r .memory) (q .memory) (f (suc k) (r .state) (r .memory) (r .tables))
+          (f (suc k) (r .state) (q .memory) (r .tables))
+          (e .memories) (hf (suc k) (r .state) (r .memory) (q .memory) (r .tables) (e .held) (e .memories .agree)
+          (e .marks))
 
   -- before a step: stopped, a change of level due, or on; `rest` is what follows in each run
-  before-even : (k : ℕ) (s : State) (m n t : List ℕ) (r q : Run) → Agree t₀ a b ρ m n → Marked t t₀ → (changeDue s ≡ false → EvenRun m n r q)
+  before-even : (k : ℕ) (s : State) (m n t : List ℕ) (r q : Run) → Agree t₀ a b ρ m n → Marked t t₀
+      → (changeDue s ≡ false → EvenRun m n r q)
       → EvenRun m n (cond (isStopped s) (ended Stopped k s m t) (cond (changeDue s) (ended Level k s m t) r))
       (cond (isStopped s) (ended Stopped k s n t) (cond (changeDue s) (ended Level k s n t) q))
   before-even k s m n t r q h hm e = go (isStopped s) (changeDue s) refl
     where
       go : (x y : Bool) → changeDue s ≡ y
-          → EvenRun m n (cond x (ended Stopped k s m t) (cond y (ended Level k s m t) r)) (cond x (ended Stopped k s n t) (cond y (ended Level k s n t) q))
+          → EvenRun m n (cond x (ended Stopped k s m t) (cond y (ended Level k s m t) r))
+          (cond x (ended Stopped k s n t) (cond y (ended Level k s n t) q))
       go true y d = ended-even Stopped k s m n m n t (even-refl t₀ a b ρ m n h) hm
       go false true d = ended-even Level k s m n m n t (even-refl t₀ a b ρ m n h) hm
       go false false d = e d
@@ -144,5 +180,7 @@ module _ (t₀ : List ℕ) (a b ρ : ℕ) where
       before-even k s m n t (ended Spent k s m t) (ended Spent k s n t) h hm
       (λ d. ended-even Spent k s m n m n t (even-refl t₀ a b ρ m n h) hm)
   run-even low (suc c) k s m n t hs h hm =
-      before-even k s m n t (afterStep true (runFrom true c) k (step s m t)) (afterStep true (runFrom true c) k (step s n t)) h hm
-      (λ d. after-even (runFrom true c) (run-even low c) k m n (step s m t) (step s n t) (step-even low s m n t d hs h hm))
+      before-even k s m n t (afterStep true (runFrom true c) k (step s m t))
+      (afterStep true (runFrom true c) k (step s n t)) h hm
+      (λ d. after-even (runFrom true c) (run-even low c) k m n (step s m t) (step s n t)
+      (step-even low s m n t d hs h hm))

@@ -12,8 +12,11 @@ use Rattle.isa.specs.Machine.{bit, withBit, reg, nextCore, withFile, withContro
 use Rattle.isa.specs.Flags.{bitsOf}
 use Rattle.isa.specs.System.{withPid}
 use Rattle.isa.specs.Instructions.{Completed, complete, request, indirectRequest}
-use Rattle.isa.specs.Pages.{entryAt, slotOf, Tested, testAll, translate, marked, faultOf, passes, wordAt, wordsAt, rightsOf, lowered, loweredPcr}
-use Rattle.isa.specs.Step.{Part, part, detected, interrupted, gives, withPgs, faulted, failed, trapped, finishedCore, finished, operandsTested, operands, indirectTested, userStage, privileged, instructionStage, instructionOf, afterFetch, fetched, fetchOf, stepIn}
+use Rattle.isa.specs.Pages.{entryAt, slotOf, Tested, testAll, translate, marked, faultOf, passes, wordAt, wordsAt}
+use Rattle.isa.specs.Pages.{rightsOf, lowered, loweredPcr}
+use Rattle.isa.specs.Step.{Part, part, detected, interrupted, gives, withPgs, faulted, failed, trapped, finishedCore}
+use Rattle.isa.specs.Step.{finished, operandsTested, operands, indirectTested, userStage, privileged}
+use Rattle.isa.specs.Step.{instructionStage, instructionOf, afterFetch, fetched, fetchOf, stepIn}
 use Rattle.isa.specs.declared.machine.Control.{Control}
 use Rattle.isa.specs.declared.machine.Core.{Core}
 use Rattle.isa.specs.declared.machine.File.{File}
@@ -22,11 +25,14 @@ use Rattle.isa.specs.declared.instruction.User.{User}
 use Rattle.isa.specs.declared.instruction.Instruction.{Instruction}
 use Rattle.isa.specs.declared.instruction.Instruction.the-variants.{Unprivileged, Privileged, Execute, Monitor, Illegal}
 use Rattle.isa.specs.declared.access.Translation.{Translation}
-use Rattle.isa.specs.declared.access.Translation.the-variants.{NoAccess, Load, Store, LoadTable, StoreTable, Protection, PageFault, OutOfRange}
+use Rattle.isa.specs.declared.access.Translation.the-variants.{NoAccess, Load, Store, LoadTable, StoreTable}
+use Rattle.isa.specs.declared.access.Translation.the-variants.{Protection, PageFault, OutOfRange}
 use Rattle.isa.specs.declared.answer.Far.{Far}
-use Rattle.isa.specs.declared.answer.Far.the-variants.{Nothing, Call, ReadRegister, WriteRegister, ReadPcr, WritePcr, StoreBlock, LoadBlock}
+use Rattle.isa.specs.declared.answer.Far.the-variants.{Nothing, Call, ReadRegister, WriteRegister, ReadPcr, WritePcr}
+use Rattle.isa.specs.declared.answer.Far.the-variants.{StoreBlock, LoadBlock}
 use Rattle.isa.proofs.Marks.{Marked}
-use Rattle.isolation.proofs.Accesses.{Held, Allowed, AllAllowed, HeldTests, core-allowed, core-marked, core-tests}
+use Rattle.isolation.proofs.Accesses.{Held, Allowed, AllAllowed, HeldTests, core-allowed, core-marked}
+use Rattle.isolation.proofs.Accesses.{core-tests}
 use Rattle.isolation.proofs.Memories.{Agree, EvenMemories, even-refl, word-same, words-same, store-all}
 
 -- what an unprivileged program leaves to be done outside its level: nothing, or a monitor call
@@ -71,7 +77,8 @@ module _ (t₀ : List ℕ) (a b ρ : ℕ) where
 
   -- a file, or an interrupt, changes nothing of what confines the level
   file-held : (c : Core) (f : File) → Held t₀ a b ρ c → Held t₀ a b ρ (withFile c f)
-  file-held c f h = record { paging-on = h .paging-on; ring-low = h .ring-low; normal = h .normal; alternate = h .alternate }
+  file-held c f h =
+      record { paging-on = h .paging-on; ring-low = h .ring-low; normal = h .normal; alternate = h .alternate }
 
   gives-held : (n : ℕ) (c : Core) → Held t₀ a b ρ c → Held t₀ a b ρ (gives n c)
   gives-held n c h = record {
@@ -143,10 +150,12 @@ module _ (t₀ : List ℕ) (a b ρ : ℕ) where
       local = hf;
     }
 
-    failed-even : (t : List ℕ) (c : Core) (x : Translation) → Marked t t₀ → Held t₀ a b ρ c → Even m n (failed c x m t) (failed c x n t)
+    failed-even : (t : List ℕ) (c : Core) (x : Translation) → Marked t t₀ → Held t₀ a b ρ c
+        → Even m n (failed c x m t) (failed c x n t)
     failed-even t c x hm hc = quiet t (faulted x c) (faultOf x) Nothing hm (faulted-held x c hc) tt
 
-    trapped-even : (t : List ℕ) (k : ℕ) (c : Core) → Marked t t₀ → Held t₀ a b ρ c → Even m n (trapped k c m t) (trapped k c n t)
+    trapped-even : (t : List ℕ) (k : ℕ) (c : Core) → Marked t t₀ → Held t₀ a b ρ c
+        → Even m n (trapped k c m t) (trapped k c n t)
     trapped-even t k c hm hc = quiet t (gives k c) k Nothing hm (gives-held k c hc) tt
 
     module _ (c : Core) (hc : Held t₀ a b ρ c) where
@@ -164,7 +173,8 @@ module _ (t₀ : List ℕ) (a b ρ : ℕ) where
             local = tt;
           }
 
-      tested-even : (u : User) (i : ℕ) (r : Tested) → HeldTests t₀ a b ρ r → Even m n (operandsTested c m u i r) (operandsTested c n u i r)
+      tested-even : (u : User) (i : ℕ) (r : Tested) → HeldTests t₀ a b ρ r
+          → Even m n (operandsTested c m u i r) (operandsTested c n u i r)
       unfolding operandsTested
       tested-even u i r hr =
           rw (← words-same t₀ a b ρ m n (r .tables) (r .places) (hr .places) h) (go (passes (r .fault)))
@@ -173,18 +183,22 @@ module _ (t₀ : List ℕ) (a b ρ : ℕ) where
           d = complete u (c .file) i (wordsAt m (r .tables) (r .places))
 
           go : (x : Bool)
-              → Even m n (cond x (finished c m (r .tables) (r .places) d) (failed (nextCore c) (r .fault) m (r .tables)))
+              → Even m n (cond x (finished c m (r .tables) (r .places) d)
+              (failed (nextCore c) (r .fault) m (r .tables)))
               (cond x (finished c n (r .tables) (r .places) d) (failed (nextCore c) (r .fault) n (r .tables)))
           go true = finished-even (r .tables) (r .places) d (hr .marks) (hr .places)
           go false = failed-even (r .tables) (nextCore c) (r .fault) (hr .marks) (next-held c hc)
 
       module _ (ρ≤1 : ρ ≤ 1) where
-        operands-even : (t : List ℕ) (u : User) (i : ℕ) → Marked t t₀ → Even m n (operands c m t u i) (operands c n t u i)
+        operands-even : (t : List ℕ) (u : User) (i : ℕ) → Marked t t₀
+            → Even m n (operands c m t u i) (operands c n t u i)
         unfolding operands
         operands-even t u i hm =
-            rw (← h .size) (tested-even u i (testAll t (length m) (rightsOf c) (request u (c .file) i)) (core-tests t₀ a b ρ ρ≤1 c hc t hm (length m) (request u (c .file) i)))
+            rw (← h .size) (tested-even u i (testAll t (length m) (rightsOf c) (request u (c .file) i))
+            (core-tests t₀ a b ρ ρ≤1 c hc t hm (length m) (request u (c .file) i)))
 
-        indirect-even : (u : User) (r : Tested) → HeldTests t₀ a b ρ r → Even m n (indirectTested c m u r) (indirectTested c n u r)
+        indirect-even : (u : User) (r : Tested) → HeldTests t₀ a b ρ r
+            → Even m n (indirectTested c m u r) (indirectTested c n u r)
         unfolding indirectTested
         indirect-even u r hr =
             rw (← words-same t₀ a b ρ m n (r .tables) (r .places) (hr .places) h) (go (passes (r .fault)))
@@ -201,13 +215,16 @@ module _ (t₀ : List ℕ) (a b ρ : ℕ) where
         user-even : (t : List ℕ) (u : User) → Marked t t₀ → Even m n (userStage c m t u) (userStage c n t u)
         unfolding userStage
         user-even t u hm =
-            rw (← h .size) (indirect-even u (testAll t (length m) (rightsOf c) (indirectRequest u (c .file))) (core-tests t₀ a b ρ ρ≤1 c hc t hm (length m) (indirectRequest u (c .file))))
+            rw (← h .size) (indirect-even u (testAll t (length m) (rightsOf c) (indirectRequest u (c .file)))
+            (core-tests t₀ a b ρ ρ≤1 c hc t hm (length m) (indirectRequest u (c .file))))
 
         -- with paging on, no privileged instruction is executed on ring 0 or 1
         not-privileged : privileged c ≡ false
-        not-privileged = rw (eq-eqb (c .control .paging) 1 (hc .paging-on), lt-leb 2 (ringOf (c .pcr)) (omega (arith, hc .ring-low)))
+        not-privileged =
+            rw (eq-eqb (c .control .paging) 1 (hc .paging-on), lt-leb 2 (ringOf (c .pcr)) (omega (arith, hc .ring-low)))
 
-        instruction-even : (l : ℕ) (t : List ℕ) (i : Instruction) → Marked t t₀ → Even m n (instructionStage l c m t i) (instructionStage l c n t i)
+        instruction-even : (l : ℕ) (t : List ℕ) (i : Instruction) → Marked t t₀
+            → Even m n (instructionStage l c m t i) (instructionStage l c n t i)
         unfolding instructionStage
         instruction-even l t (Unprivileged u) hm = user-even t u hm
         instruction-even l t (Privileged q) hm = rw not-privileged (trapped-even t 6 (nextCore c) hm (next-held c hc))
@@ -218,7 +235,8 @@ module _ (t₀ : List ℕ) (a b ρ : ℕ) where
 
     -- fetch, and the whole step of the level
     module _ (ρ≤1 : ρ ≤ 1) (l : ℕ) (c : Core) (hc : Held t₀ a b ρ c) where
-      fetched-even : (t : List ℕ) (ring : ℕ) (x : Translation) → Marked t t₀ → Allowed t₀ a b ρ x → Even m n (fetched l c m t ring x) (fetched l c n t ring x)
+      fetched-even : (t : List ℕ) (ring : ℕ) (x : Translation) → Marked t t₀ → Allowed t₀ a b ρ x
+          → Even m n (fetched l c m t ring x) (fetched l c n t ring x)
       unfolding fetched
       fetched-even t ring x hm hx = rw (← word-same t₀ a b ρ m n t x hx h) (go (passes x))
         where
@@ -226,7 +244,8 @@ module _ (t₀ : List ℕ) (a b ρ : ℕ) where
           i = instructionOf c (wordAt m t x)
 
           go : (y : Bool)
-              → Even m n (cond y (instructionStage l (afterFetch c ring x) m t i) (failed c x m t)) (cond y (instructionStage l (afterFetch c ring x) n t i) (failed c x n t))
+              → Even m n (cond y (instructionStage l (afterFetch c ring x) m t i) (failed c x m t))
+              (cond y (instructionStage l (afterFetch c ring x) n t i) (failed c x n t))
           go true = instruction-even (afterFetch c ring x) (fetch-held c ring x hc) ρ≤1 l t i hm
           go false = failed-even t c x hm hc
 
@@ -234,7 +253,8 @@ module _ (t₀ : List ℕ) (a b ρ : ℕ) where
       unfolding stepIn
       level-even t hm =
           rw (← h .size)
-          (fetched-even (marked t (length m) (rightsOf c) (fetchOf c)) (entryAt t (slotOf (rightsOf c .normal) (reg (c .file) P)) .ring)
+          (fetched-even (marked t (length m) (rightsOf c) (fetchOf c))
+          (entryAt t (slotOf (rightsOf c .normal) (reg (c .file) P)) .ring)
           (translate t (length m) (rightsOf c) (fetchOf c))
           (core-marked t₀ a b ρ ρ≤1 c hc t hm (length m) (fetchOf c))
           (core-allowed t₀ a b ρ ρ≤1 c hc t hm (length m) (fetchOf c)))

@@ -36,7 +36,8 @@ equal-words : (m n : List ℕ) (k : ℕ) → getD m k 0 ≡ getD n k 0 → diffe
 equal-words m n k e = rw (eq-eqb (getD m k 0) (getD n k 0) e)
 
 -- the count goes by the words that differ
-count-same : (m n m′ n′ : List ℕ) → ((k : ℕ) → differs m′ n′ k ≡ differs m n k) → (k : ℕ) → differingBelow k m′ n′ ≡ differingBelow k m n
+count-same : (m n m′ n′ : List ℕ) → ((k : ℕ) → differs m′ n′ k ≡ differs m n k) → (k : ℕ)
+    → differingBelow k m′ n′ ≡ differingBelow k m n
 count-same m n m′ n′ h zero = refl
 count-same m n m′ n′ h (suc k) = rw (h k, count-same m n m′ n′ h k)
 
@@ -49,7 +50,8 @@ module _ (s : State) (t : List ℕ) where
       EvenMemories t (normalTableOf (startPcr s)) (alternateTableOf (startPcr s)) (ringOf (startPcr s)) m n m′ n′
 
   abbrev EvenFrom : List ℕ → List ℕ → Run → Run → Type 0
-  EvenFrom m n r q = EvenRun t (normalTableOf (startPcr s)) (alternateTableOf (startPcr s)) (ringOf (startPcr s)) m n r q
+  EvenFrom m n r q =
+      EvenRun t (normalTableOf (startPcr s)) (alternateTableOf (startPcr s)) (ringOf (startPcr s)) m n r q
 
   -- a page that is not permitted is not permitted for writing
   foreign-unwritten : (page : ℕ) → reachable s t page ≡ false → writable s t page ≡ false
@@ -58,13 +60,15 @@ module _ (s : State) (t : List ℕ) where
       go : (x : Bool) → writable s t page ≡ x → writable s t page ≡ false
       go true q =
           absurd
-          (no-both (sym f ∙ writing-permitted t (normalTableOf (startPcr s)) (alternateTableOf (startPcr s)) (ringOf (startPcr s)) page q))
+          (no-both (sym f ∙ writing-permitted t (normalTableOf (startPcr s)) (alternateTableOf (startPcr s))
+          (ringOf (startPcr s)) page q))
       go false q = q
 
   -- from m and n to m′ and n′: a word of a foreign page is as it was in each, and of any other page is the same in both
   module _ (m n m′ n′ : List ℕ) (h : AgreeFrom m n) (e : MemoriesFrom m n m′ n′) where
     both-kept : (k : ℕ) → reachable s t (k / 1024) ≡ false → (getD m′ k 0 ≡ getD m k 0) × (getD n′ k 0 ≡ getD n k 0)
-    both-kept k f = (e .left .same k (foreign-unwritten (k / 1024) f), e .right .same k (foreign-unwritten (k / 1024) f))
+    both-kept k f =
+        (e .left .same k (foreign-unwritten (k / 1024) f), e .right .same k (foreign-unwritten (k / 1024) f))
 
     differ-kept : (k : ℕ) → differs m n k ≡ true → (getD m′ k 0 ≡ getD m k 0) × (getD n′ k 0 ≡ getD n k 0)
     differ-kept k d = go (reachable s t (k / 1024)) refl
@@ -82,7 +86,8 @@ module _ (s : State) (t : List ℕ) where
 
   -- ---- the conclusions
 
-  even-isolated : (m n : List ℕ) (r q : Run) → AgreeFrom m n → EvenFrom m n r q → Isolated s t m n (ranCall r) (ranCall q)
+  even-isolated : (m n : List ℕ) (r q : Run) → AgreeFrom m n → EvenFrom m n r q
+      → Isolated s t m n (ranCall r) (ranCall q)
   even-isolated m n r q h e =
       let w = e .memories in
       let d = differ-same m n (r .memory) (q .memory) h w in
@@ -92,14 +97,17 @@ module _ (s : State) (t : List ℕ) where
         tables = e .tables;
         differing = differ-kept m n (r .memory) (q .memory) h w;
         no-other = λ k f. d k ∙ f;
-        count = ap (λ (x : ℕ). differingBelow x (r .memory) (q .memory)) (w .left .size) ∙ count-same m n (r .memory) (q .memory) d (length m);
+        count =
+            ap (λ (x : ℕ). differingBelow x (r .memory) (q .memory)) (w .left .size)
+            ∙ count-same m n (r .memory) (q .memory) d (length m);
         left = record { size = w .left .size; unwritten = w .left .same; marks = e .marks };
         right = record { size = w .right .size; unwritten = w .right .same; marks = rw (← e .tables) (e .marks) };
       }
 
   -- a refused call leaves everything as it came
   refused-isolated : (m n : List ℕ) (x : Refusal)
-      → Isolated s t m n (record { answer = RunRefused x; state = s; memory = m; tables = t }) (record { answer = RunRefused x; state = s; memory = n; tables = t })
+      → Isolated s t m n (record { answer = RunRefused x; state = s; memory = m; tables = t })
+      (record { answer = RunRefused x; state = s; memory = n; tables = t })
   refused-isolated m n x = record {
     answer = refl;
     state = refl;
@@ -112,7 +120,8 @@ module _ (s : State) (t : List ℕ) where
   }
 
 -- THE THEOREM: run to the first interrupt from two starts that are alike, for any number of steps, 0 included.
-pub isolation : (c : ℕ) (s : State) (t m n : List ℕ) → Starts s t m n → Isolated s t m n (runCall true c s m t) (runCall true c s n t)
+pub isolation : (c : ℕ) (s : State) (t m n : List ℕ) → Starts s t m n
+    → Isolated s t m n (runCall true c s m t) (runCall true c s n t)
 unfolding runCall
 isolation c s t m n h = rw (← answer-same s t m n (h .alike .size)) (go (stateAnswer s m t))
   where
@@ -122,14 +131,17 @@ isolation c s t m n h = rw (← answer-same s t m n (h .alike .size)) (go (state
     go : (x : Answer) → Isolated s t m n (runCallBy x true c s m t) (runCallBy x true c s n t)
     go Done =
         even-isolated s t m n (runFrom true c 0 s m t) (runFrom true c 0 s n t) agree
-        (run-even t (normalTableOf (startPcr s)) (alternateTableOf (startPcr s)) (ringOf (startPcr s)) (h .ring-low) c 0 s m n t
+        (run-even t (normalTableOf (startPcr s)) (alternateTableOf (startPcr s)) (ringOf (startPcr s)) (h .ring-low) c
+        0 s m n t
         (record { paging-on = h .paging-on; ring-low = le-refl _; normal = refl; alternate = refl })
         agree
         (λ i. same-entry (entryAt t i)))
     go (Refused x) = refused-isolated s t m n x
 
--- Two starts that are refused, with equally much memory and equal in all but memory's words, get the same refusal and stay.
-pub refused-alike : (c : ℕ) (s : State) (t m n : List ℕ) (x : Refusal) → length m ≡ length n → stateAnswer s m t ≡ Refused x
+-- Two starts that are refused, with equally much memory and equal in all but memory's words, get the same refusal and
+-- stay.
+pub refused-alike : (c : ℕ) (s : State) (t m n : List ℕ) (x : Refusal) → length m ≡ length n
+    → stateAnswer s m t ≡ Refused x
     → RefusedAlike s t m n x (runCall true c s m t) (runCall true c s n t)
 unfolding runCall
 refused-alike c s t m n x h e = record { left = rw e; right = rw (← answer-same s t m n h, e) }

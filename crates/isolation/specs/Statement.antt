@@ -17,14 +17,16 @@ pub record Starts (s : State) (t m n : List ℕ) : Type 0 where
   -- "Two machines with paging on, on one ring 0 or 1"
   pub paging-on : s .control .paging ≡ 1
   pub ring-low : ringOf (startPcr s) ≤ 1
-  -- "equally much memory and .. equal in .. each memory word outside the pages that no entry of the two tables permits to the ring"
+  -- "equally much memory and .. equal in .. each memory word outside the pages that no entry of the two tables permits
+  -- to the ring"
   pub alike : AlikeStarts s t m n
 
 -- What one run from the memory m leaves.
 pub record Confined (s : State) (t m : List ℕ) (r : RunCall) : Type 0 where
   -- as much memory as before
   pub size : length (r .memory) ≡ length m
-  -- "in each run every word of a page not permitted for writing is as it was"
+  -- "in each run every word of a page not permitted for writing is as it was"; past the end there is none, and `getD`
+  -- gives 0
   pub unwritten : (k : ℕ) → writable s t (k / 1024) ≡ false → getD (r .memory) k 0 ≡ getD m k 0
   -- page tables are changed in their marks alone, so that permits, rings and pages are those of the start
   pub marks : (i : ℕ) → MarksAlone (entryAt (r .tables) i) (entryAt t i)
@@ -33,12 +35,13 @@ pub record Confined (s : State) (t m : List ℕ) (r : RunCall) : Type 0 where
 pub record Isolated (s : State) (t m n : List ℕ) (r q : RunCall) : Type 0 where
   -- "steps and reason differ in nothing", nor does a refusal
   pub answer : r .answer ≡ q .answer
-  -- "equal in every register, control word"
+  -- "equal in every register, control word and page table word, marks too"
   pub state : r .state ≡ q .state
-  -- "and page table word, marks too"
   pub tables : r .tables ≡ q .tables
-  -- "The same words differ afterwards with the same two values": a word that differed at the start is in each run as it was ..
-  pub differing : (k : ℕ) → differs m n k ≡ true → (getD (r .memory) k 0 ≡ getD m k 0) × (getD (q .memory) k 0 ≡ getD n k 0)
+  -- "The same words differ afterwards with the same two values": a word that differed at the start is in each run as it
+  -- was ..
+  pub differing : (k : ℕ) → differs m n k ≡ true
+      → (getD (r .memory) k 0 ≡ getD m k 0) × (getD (q .memory) k 0 ≡ getD n k 0)
   -- .. and no other word differs
   pub no-other : (k : ℕ) → differs m n k ≡ false → differs (r .memory) (q .memory) k ≡ false
   -- "as many as before"
@@ -47,8 +50,8 @@ pub record Isolated (s : State) (t m n : List ℕ) (r q : RunCall) : Type 0 wher
   pub left : Confined s t m r
   pub right : Confined s t n q
 
--- "Two starts that are refused, with equally much memory and equal in all but memory's words, get the same refusal, and each stays as
--- it came": the calls r and q with the refusal x.
+-- "Two starts that are refused, with equally much memory and equal in all but memory's words, get the same refusal, and
+-- each stays as it came": the calls r and q with the refusal x.
 pub record RefusedAlike (s : State) (t m n : List ℕ) (x : Refusal) (r q : RunCall) : Type 0 where
   pub left : r ≡ record { answer = Refused x; state = s; memory = m; tables = t }
   pub right : q ≡ record { answer = Refused x; state = s; memory = n; tables = t }

@@ -1,5 +1,6 @@
 -- A change of level: when it is due, and what it leaves.
 -- Assumes nothing.
+use Rattle.isa.specs.Machine.{registerWords}
 use Prim.Native.Nat.{ℕ, _<_}
 use mathlib.Core.Path.{_≡_, refl, ap, _∙_}
 use mathlib.Core.List.{List}
@@ -24,11 +25,18 @@ abbrev oldLevel : ℕ → Core → Control
 oldLevel l c = withLevels (c .control) (c .control .pid) (c .control .pie) l
 
 -- a change of level: b are all registers with the old level's put back, f the new level's out of them
-pub changed-level : (l : ℕ) (c : Core) (regs pcrs : List ℕ) (to : ℕ) (m t : List ℕ) → to < 16 → (b : List ℕ) (f : File) → length b ≡ 128
-    → b ≡ putFile regs l (c .file) → f ≡ fileAt b to → to ≡ highestLevel (c .control)
-    → turn (pack to (record { file = f; pcr = getD (set pcrs l (c .pcr)) to 0; control = oldLevel l c }) b (set pcrs l (c .pcr))) 0 m t ≡ turn (levelChanged (pack l c regs pcrs)) 0 m t
+pub changed-level :
+    (l : ℕ) (c : Core) (regs pcrs : List ℕ) (to : ℕ) → to < 16 → (b : List ℕ) (f : File)
+    → length b ≡ registerWords
+    → b ≡ putFile regs l (c .file)
+    → f ≡ fileAt b to
+    → to ≡ highestLevel (c .control)
+    → (m t : List ℕ)
+    → turn (pack to (record { file = f; pcr = getD (set pcrs l (c .pcr)) to 0; control = oldLevel l c }) b
+    (set pcrs l (c .pcr))) 0 m t
+    ≡ turn (levelChanged (pack l c regs pcrs)) 0 m t
 unfolding levelChanged
-changed-level l c regs pcrs to m t k b f h eb ef et =
+changed-level l c regs pcrs to k b f h eb ef et m t =
     let p : List ℕ = set pcrs l (c .pcr) in
     let s : State = record { regs = b; level = to; control = oldLevel l c; pcr = p } in
     ap (λ (g : File). turn (pack to (record { file = g; pcr = getD p to 0; control = oldLevel l c }) b p) 0 m t) ef

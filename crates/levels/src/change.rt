@@ -1,4 +1,5 @@
 // A change of level.
+ghost use Rattle.isa.specs.Machine.{levelCount, registerWords};
 ghost use mathlib.Core.Path.{_≡_};
 ghost use mathlib.Core.List.{List};
 ghost use Prim.Native.Nat.{ℕ, _<_};
@@ -8,9 +9,9 @@ ghost use Rattle.isa.specs.Step.{highestLevel, levelChanged, turn};
 ghost use Rattle.levels.specs.Changes.{dueAt, advancedTurn};
 use crate::file_at;
 use crate::put_file;
+use arithmetic::bits;
 use isa::machine::Control;
 use isa::machine::Core;
-use word::bits;
 
 // The running level, its words, the steps before the last, and the interrupt that the last gave, or 0.
 pub struct Advanced {
@@ -41,10 +42,11 @@ pub fn change_due(level: u16, k: Control) -> bool
 // PVL takes the old level, the new one runs: its words are taken out of the lent ones.
 pub fn changed(level: u16, c: Core, regs: &mut [u16], pcrs: &mut [u16]) -> Advanced
     requires { ⌜ level < 16 ⌝ }
-    requires { ⌜ length (now regs) ≡ 128 ⌝ }
-    requires { ⌜ length (now pcrs) ≡ 16 ⌝ }
+    requires { ⌜ length (now regs) ≡ registerWords ⌝ }
+    requires { ⌜ length (now pcrs) ≡ levelCount ⌝ }
     ensures { λ r. ⌜ (r .level < 16) × (r .before ≡ 0) ⌝ }
-    ensures { λ r. ⌜ ((m t : List ℕ) → advancedTurn r (now (regs .exit)) (now (pcrs .exit)) m t ≡ turn (levelChanged (pack level c (now (regs .entry)) (now (pcrs .entry)))) 0 m t) ⌝ }
+    ensures { λ r. ⌜ ((m t : List ℕ) → advancedTurn r (now (regs .exit)) (now (pcrs .exit)) m t
+        ≡ turn (levelChanged (pack level c (now (regs .entry)) (now (pcrs .entry)))) 0 m t) ⌝ }
 {
     let f = c.file;
     let mut k = c.control;

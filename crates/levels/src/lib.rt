@@ -1,4 +1,6 @@
-// A level's words: taken out of those of all levels, and put back; the change of level.
+// A level's words: taken out of those of all levels, and put back; the change of level; registers and PCRs of other
+// levels: MON, IRR, IRW, TRA PGC, TRR PCR.
+ghost use Rattle.isa.specs.Machine.{registerWords};
 ghost use mathlib.Core.Path.{_≡_};
 ghost use Prim.Native.Nat.{_<_};
 ghost use lib.ListN.{length};
@@ -9,32 +11,32 @@ use isa::machine::Register;
 use isa::machine::State;
 
 pub mod change;
+pub mod pcr;
+pub mod registers;
 
 // A level's registers.
 pub fn file_at(regs: &[u16], level: u16) -> File
     requires { ⌜ level < 16 ⌝ }
-    requires { ⌜ length (now regs) ≡ 128 ⌝ }
+    requires { ⌜ length (now regs) ≡ registerWords ⌝ }
     ensures { λ f. ⌜ f ≡ fileAt (now (regs .entry)) level ⌝ }
 {
     let i = level as usize * 8;
     File {
-        words: [
-            regs[i],
-            regs[i + 1],
-            regs[i + 2],
-            regs[i + 3],
-            regs[i + 4],
-            regs[i + 5],
-            regs[i + 6],
-            regs[i + 7],
-        ],
+        p: regs[i + 2],
+        a: regs[i + 5],
+        b: regs[i + 3],
+        l: regs[i + 4],
+        d: regs[i + 1],
+        t: regs[i + 6],
+        x: regs[i + 7],
+        sts: regs[i],
     }
 }
 
 // All registers with a level's replaced.
 pub fn put_file(regs: &mut [u16], level: u16, f: File)
     requires { ⌜ level < 16 ⌝ }
-    requires { ⌜ length (now regs) ≡ 128 ⌝ }
+    requires { ⌜ length (now regs) ≡ registerWords ⌝ }
     ensures { λ _. ⌜ now (regs .exit) ≡ putFile (now (regs .entry)) level f ⌝ }
 {
     let i = level as usize * 8;

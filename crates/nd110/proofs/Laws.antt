@@ -1,52 +1,63 @@
--- What a call that is not refused has.
+-- Words put in front, and what a call leaves by its number.
 -- Assumes nothing.
-use Prim.Native.Nat.{ℕ, _<_}
-use mathlib.Core.Path.{_≡_, refl}
-use mathlib.Core.Bool.{Bool, true, false, cond, not, _&&_}
-use mathlib.Core.List.{List}
-use lib.ListN.{length}
-use lib.Dec.{ltb}
-use borrow.Author.Tests.{ltb-true}
-use Rattle.isa.specs.Machine.{inRange, sizesFit, controlInRange, allPcrBits, flagsFit}
-use Rattle.isa.specs.Answers.{stateAnswer, levelAnswer, deviceLevel}
-use Rattle.isa.proofs.Tests.{and-left}
-use Rattle.state.proofs.Passed.{sizes-of, tables-all}
+use Prim.Native.Nat.{ℕ, _≤_}
+use mathlib.Core.Path.{_≡_, sym, ap, _∙_}
+use mathlib.Core.Bool.{Bool, cond}
+use mathlib.Core.List.{List, _++_}
+use native.Mathlib.Omega.{arith}
+use native.Mathlib.Nat.{le-of-eq, zero-add}
+use lib.ListN.{length, drop, length-take}
+use lib.Seq.{paste, take-all}
+use borrow.Author.Tests.{eq-eqb, ne-eqb}
+use Rattle.isa.specs.Answers.{viewAnswer, viewedBy, viewed, targetOf}
+use Rattle.isa.specs.declared.machine.State.{State}
+use Rattle.isa.specs.declared.answer.Target.{Target}
 use Rattle.isa.specs.declared.answer.Answer.{Answer}
 use Rattle.isa.specs.declared.answer.Answer.the-variants.{Done, Refused}
-use Rattle.isa.specs.declared.answer.Refusal.the-variants.{Sizes, State as StateRange, RaiseLevel}
-use Rattle.isa.specs.declared.machine.State.{State}
+use Rattle.nd110.specs.Calls.{Left, leftOf, ended, called, stateIn, wordsOf, badCall}
 
--- a level from 0 to 15
-level-of : (s : State) (m t : List ℕ) → stateAnswer s m t ≡ Done → s .level < 16
-unfolding stateAnswer inRange
-level-of s m t e = ltb-true (s .level) 16 (and-left l k (and-left (l && k) p (and-left (l && k && p) f (go (sizesFit m t) (l && k && p && f) e))))
+-- ---- words put in front of others
+
+pub put-front : (d w : List ℕ) (n : ℕ) → length w ≡ n → paste d 0 w n ≡ w ++ drop n d
+put-front d w n h = (λ i. take-all n w (le-of-eq h) i ++ drop (zero-add n i) d)
+
+-- a view is no longer than asked
+pub viewed-most : (k : Target) (a n : ℕ) (m t : List ℕ) → length (viewed k a n m t) ≤ n
+unfolding viewed
+viewed-most k a n m t = go (viewAnswer k a n m t)
   where
-    l : Bool
-    l = ltb (s .level) 16
+    go : (x : Answer) → length (viewedBy x (targetOf k m t) a n) ≤ n
+    go Done = rw (length-take n (drop a (targetOf k m t))) (omega arith)
+    go (Refused r) = omega arith
 
-    k : Bool
-    k = controlInRange (s .control)
+-- ---- what a call leaves
 
-    p : Bool
-    p = allPcrBits (s .pcr)
+-- an operation that was refused, and one that was done, by the number k that the code has as n
+module _ (n k : ℕ) (s : State) (m t x w y : List ℕ) (e : n ≡ k) where
+  pub ended-refused : (n ≡ 0 → ⊥) → leftOf n w m t y ≡ ended k s m t x w y
+  unfolding ended
+  ended-refused h =
+      (λ i. leftOf n (cond (sym (ne-eqb n 0 h) i) (wordsOf s) w) m t (cond (sym (ne-eqb n 0 h) i) x y))
+      ∙ ap (λ (j : ℕ). ended j s m t x w y) e
 
-    f : Bool
-    f = flagsFit 16 (s .regs)
+  pub ended-done : (v z : List ℕ) → n ≡ 0 → v ≡ wordsOf s → z ≡ x → leftOf 0 v m t z ≡ ended k s m t x w y
+  unfolding ended
+  ended-done v z h hv hz =
+      (λ i. leftOf (sym h i) (hv i) m t (hz i))
+      ∙ (λ i. leftOf n (cond (sym (eq-eqb n 0 h) i) (wordsOf s) w) m t (cond (sym (eq-eqb n 0 h) i) x y))
+      ∙ ap (λ (j : ℕ). ended j s m t x w y) e
 
-    go : (x y : Bool) → cond (not x) (Refused Sizes) (cond (not y) (Refused StateRange) Done) ≡ Done → y ≡ true
-    go true true e = refl
-    go true false e = cc
-    go false y e = cc
+-- words that are no state
+pub called-badly : (w m t y : List ℕ) (l : Left) → (length w ≡ 154 → ⊥) → leftOf badCall w m t y ≡ called w m t y l
+unfolding called
+called-badly w m t y l h = ap (λ (b : Bool). cond b l (leftOf badCall w m t y)) (sym (ne-eqb (length w) 154 h))
 
--- what a run asks of it
-pub run-needs : (s : State) (m t : List ℕ) → stateAnswer s m t ≡ Done → (s .level < 16) × (length t ≡ 256)
-run-needs s m t e = (level-of s m t e, tables-all m t (sizes-of s m t e))
-
--- a device's level
-pub device-of : (l : ℕ) (a : Answer) → levelAnswer l a ≡ Done → deviceLevel l ≡ true
-device-of l Done = go (deviceLevel l)
-  where
-    go : (b : Bool) → cond b Done (Refused RaiseLevel) ≡ Done → b ≡ true
-    go true e = refl
-    go false e = cc
-device-of l (Refused r) = λ e. cc
+-- the words' state s, an operation that gave r, and what was left by it
+pub called-well : {C : Type 0} (call : State → C) (end : C → Left) (w m t y : List ℕ) (s : State) (r : C) (l : Left)
+    → length w ≡ 154 → s ≡ stateIn w → r ≡ call s → l ≡ end r → l ≡ called w m t y (end (call (stateIn w)))
+unfolding called
+called-well call end w m t y s r l h given gave left =
+    let x = end (call (stateIn w)) in
+    left
+    ∙ ap end (gave ∙ ap call given)
+    ∙ ap (λ (b : Bool). cond b x (leftOf badCall w m t y)) (sym (eq-eqb (length w) 154 h))

@@ -1,16 +1,113 @@
--- What an entry point answers, with memory and page tables after it, as one call of the definitions.
+-- What a host's call answers and leaves: the operations of document 01 over a state lent as words in image order.
 use Prim.Native.Nat.{ℕ}
-use mathlib.Core.List.{List}
-use Rattle.isa.specs.Answers.{StepCall, RunCall, StateCall}
-use Rattle.nd110.specs.declared.step.Stepped.{Stepped}
-use Rattle.nd110.specs.declared.runs.Ran.{Ran}
-use Rattle.nd110.specs.declared.raise.Raised.{Raised}
+use mathlib.Core.Bool.{Bool, cond, _||_}
+use mathlib.Core.List.{List, [], _∷_, _++_}
+use lib.ListN.{take, drop, length}
+use lib.Dec.{leb, eqb}
+use Rattle.isa.specs.Machine.{stateOf, controlWords}
+use Rattle.isa.specs.Answers.{StepCall, RunCall, StateCall, LoadCall, answerNumber, stepNumber, interruptGiven}
+use Rattle.isa.specs.Answers.{runNumber, stepsTaken, reasonNumber, stepCall, runCall, raiseCall, loadCall}
+use Rattle.isa.specs.Answers.{writeAnswer, writtenOutput, viewAnswer, viewed}
+use Rattle.isa.specs.declared.machine.State.{State}
+use Rattle.isa.specs.declared.answer.Answer.{Answer}
+use Rattle.isa.specs.declared.answer.Target.{Target}
+use Rattle.isa.specs.declared.answer.Target.the-variants.{Memory, Tables}
+use Rattle.isa.specs.declared.answer.RunAnswer.{RunAnswer}
+use Rattle.isa.specs.declared.answer.RunAnswer.the-variants.{Ran, Refused}
 
-abbrev pub stepOf : Stepped → List ℕ → List ℕ → StepCall
-stepOf r m t = record { answer = r .answer; state = r .state; memory = m; tables = t }
+-- the state of 154 words in image order, 128 registers and 26 control words, and the words of a state
+abbrev pub stateIn : List ℕ → State
+stateIn w = stateOf (take 128 w) (drop 128 w)
 
-abbrev pub runOf : Ran → List ℕ → List ℕ → RunCall
-runOf r m t = record { answer = r .answer; state = r .state; memory = m; tables = t }
+abbrev pub wordsOf : State → List ℕ
+wordsOf s = s .regs ++ controlWords s
 
-abbrev pub raiseOf : Raised → StateCall
-raiseOf r = record { answer = r .answer; state = r .state }
+-- the number of a call that is no operation: a state of other than 154 words, a view of an unknown kind or into too few
+-- words; document 02 gives 11 to 18 to its requests
+abbrev pub badCall : ℕ
+badCall = 255
+
+-- the reason's number of a run that was not refused
+abbrev pub reasonGiven : RunAnswer → ℕ
+reasonGiven (Ran k w) = reasonNumber w
+reasonGiven (Refused r) = 0
+
+-- what a call answers and leaves: its number, the state's words, memory, page tables, and the words that tell the rest
+-- of the answer
+pub record Left : Type 0 where
+  pub number : ℕ
+  pub state : List ℕ
+  pub memory : List ℕ
+  pub tables : List ℕ
+  pub told : List ℕ
+
+abbrev pub leftOf : ℕ → List ℕ → List ℕ → List ℕ → List ℕ → Left
+leftOf n w m t x = record { number = n; state = w; memory = m; tables = t; told = x }
+
+-- an operation that answers n, hands s back and tells x, called with the words w and y: a refusal leaves both
+unfoldable pub ended : ℕ → State → List ℕ → List ℕ → List ℕ → List ℕ → List ℕ → Left
+ended n s m t x w y = leftOf n (cond (eqb n 0) (wordsOf s) w) m t (cond (eqb n 0) x y)
+
+-- the call as a whole: words that are no state are refused, and nothing changes
+unfoldable pub called : List ℕ → List ℕ → List ℕ → List ℕ → Left → Left
+called w m t y l = cond (eqb (length w) 154) l (leftOf badCall w m t y)
+
+-- step tells the interrupt's number
+abbrev pub stepEnd : List ℕ → List ℕ → StepCall → Left
+stepEnd w y c = ended (stepNumber (c .answer)) (c .state) (c .memory) (c .tables) (interruptGiven (c .answer) ∷ []) w y
+
+abbrev pub hostStep : List ℕ → List ℕ → List ℕ → List ℕ → Left
+hostStep w m t y = called w m t y (stepEnd w y (stepCall (stateIn w) m t))
+
+-- a run tells its steps and its reason's number
+abbrev pub runEnd : List ℕ → List ℕ → RunCall → Left
+runEnd w y c =
+    ended (runNumber (c .answer)) (c .state) (c .memory) (c .tables)
+    (stepsTaken (c .answer) ∷ reasonGiven (c .answer) ∷ []) w y
+
+abbrev pub hostRun : Bool → ℕ → List ℕ → List ℕ → List ℕ → List ℕ → Left
+hostRun first n w m t y = called w m t y (runEnd w y (runCall first n (stateIn w) m t))
+
+-- raise and load tell nothing
+abbrev pub answerEnd : List ℕ → Answer → State → List ℕ → List ℕ → Left
+answerEnd w a s m t = ended (answerNumber a) s m t [] w []
+
+abbrev pub raiseEnd : List ℕ → List ℕ → List ℕ → StateCall → Left
+raiseEnd w m t c = answerEnd w (c .answer) (c .state) m t
+
+abbrev pub hostRaise : ℕ → List ℕ → List ℕ → List ℕ → Left
+hostRaise l w m t = called w m t [] (raiseEnd w m t (raiseCall (stateIn w) l m t))
+
+abbrev pub loadEnd : List ℕ → LoadCall → Left
+loadEnd w c = answerEnd w (c .answer) (c .state) (c .memory) (c .tables)
+
+abbrev pub hostLoad : List ℕ → List ℕ → List ℕ → List ℕ → Left
+hostLoad i w m t = called w m t [] (loadEnd w (loadCall (stateIn w) i m t))
+
+-- write: its number, and the output after it
+unfoldable pub hostWrite : List ℕ → List ℕ → List ℕ → List ℕ → ℕ
+hostWrite w m t o = cond (eqb (length w) 154) (answerNumber (writeAnswer (stateIn w) m t o)) badCall
+
+unfoldable pub hostWritten : List ℕ → List ℕ → List ℕ → List ℕ → List ℕ
+hostWritten w m t o = cond (eqb (length w) 154) (writtenOutput (stateIn w) m t o) o
+
+-- what a view is of, by the number of an image's kind: 1 memory, 4 page tables
+abbrev pub knownTarget : ℕ → Bool
+knownTarget k = eqb k 1 || eqb k 4
+
+unfoldable pub targetNamed : ℕ → Target
+targetNamed k = cond (eqb k 1) Memory Tables
+
+-- words put in front of an output, whose other words stay
+abbrev pub onto : List ℕ → List ℕ → List ℕ
+onto v o = v ++ drop (length v) o
+
+-- the call beside view; view into so many words; the output after it
+unfoldable pub hostViewAnswer : ℕ → ℕ → ℕ → List ℕ → List ℕ → ℕ
+hostViewAnswer k a n m t = cond (knownTarget k) (answerNumber (viewAnswer (targetNamed k) a n m t)) badCall
+
+unfoldable pub hostView : ℕ → ℕ → ℕ → List ℕ → List ℕ → ℕ → ℕ
+hostView k a n m t room = cond (leb n room) (hostViewAnswer k a n m t) badCall
+
+unfoldable pub hostViewed : ℕ → ℕ → ℕ → List ℕ → List ℕ → List ℕ → List ℕ
+hostViewed k a n m t o = cond (leb n (length o)) (cond (knownTarget k) (onto (viewed (targetNamed k) a n m t) o) o) o

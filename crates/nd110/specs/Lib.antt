@@ -1,2 +1,2 @@
--- The entry points' answers as calls of the definitions.
+-- The host's calls.
 pub mod Calls

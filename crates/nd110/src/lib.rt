@@ -1,49 +1,301 @@
-// The entry points. Each takes the machine as it comes: nothing is required of the caller, and a refused call leaves state, memory,
-// page tables and output as they came.
+// The operations for a host in C or Rust: numbers and lent words alone, nothing required of the caller. Each function
+// answers 0, document 01's number of a refusal, or 255 for a call that is no operation; only 0 changes lent words.
+// include/nd110.h declares them.
 ghost use mathlib.Core.Path.{_≡_};
-ghost use Rattle.isa.specs.Answers.{viewAnswer, viewed, writeAnswer, writtenOutput, loadCall};
-ghost use Rattle.image.specs.Loading.{callOf};
-use image::Loaded;
+ghost use mathlib.Core.Bool.{true, false};
+ghost use Prim.Native.Nat.{ℕ};
+ghost use mathlib.Core.List.{List, _∷_, []};
+ghost use lib.ListN.{length};
+ghost use Rattle.nd110.specs.Calls.{wordsOf, leftOf, stepEnd, hostStep, runEnd, hostRun, reasonGiven};
+ghost use Rattle.nd110.specs.Calls.{answerEnd, hostRaise, hostLoad, hostWrite, hostWritten, knownTarget};
+ghost use Rattle.nd110.specs.Calls.{targetNamed, hostViewAnswer, hostView, hostViewed};
+ghost use Rattle.isa.specs.Answers.{runCall};
+ghost use Rattle.operations.specs.Calls.{stepOf, runOf};
+use image_load::bodies::state_in;
 use isa::answer::Answer;
+use isa::answer::RunAnswer;
 use isa::answer::Target;
 use isa::machine::State;
+use isa::number::answer_number;
+use isa::number::interrupt_given;
+use isa::number::reason_number;
+use isa::number::run_number;
+use isa::number::step_number;
+use isa::number::steps_taken;
+use operations::raise::raise;
+use operations::runs::Ran;
+use operations::runs::through;
+use operations::runs::to_interrupt;
+use operations::step::Stepped;
+use operations::step::step;
+use words::copy;
 
-pub mod pair;
-pub mod raise;
-pub mod runs;
-pub mod step;
+// The number of a call that is no operation.
+const BAD_CALL: u16 = 255;
 
-// The machine of an image. Refusals 1, 4 to 8 and 2.
-pub fn load(s: State, image: &[u16], mem: &mut [u16], tables: &mut [u16]) -> Loaded
-    ensures { λ r. ⌜ callOf r (now (mem .exit)) (now (tables .exit)) ≡ loadCall s (now (image .entry)) (now (mem .entry)) (now (tables .entry)) ⌝ }
+// A state, to the lent words in image order: 128 registers, then 26 control words.
+fn put_state(s: State, words: &mut [u16])
+    requires { ⌜ length (now words) ≡ 154 ⌝ }
+    ensures { λ _. ⌜ now (words .exit) ≡ wordsOf s ⌝ }
 {
-    image::load(s, image, mem, tables)
+    image_write::put_state(s, words, 0);
 }
 
-// The machine as an image. Refusals 1, 2 and 10; words past the image stay.
-pub fn write(s: State, mem: &[u16], tables: &[u16], out: &mut [u16]) -> Answer
-    ensures { λ r. ⌜ r ≡ writeAnswer s (now (mem .entry)) (now (tables .entry)) (now (out .entry)) ⌝ }
-    ensures { λ r. ⌜ now (out .exit) ≡ writtenOutput s (now (mem .entry)) (now (tables .entry)) (now (out .entry)) ⌝ }
+// What a step answered, to the lent words.
+fn tell_step(r: Stepped, state: &mut [u16], interrupt: &mut u16) -> u16
+    requires { ⌜ length (now state) ≡ 154 ⌝ }
+    ensures { λ n. ⌜ ((m t : List ℕ)
+        → leftOf n (now (state .exit)) m t (now (interrupt .exit) ∷ [])
+        ≡ stepEnd (now (state .entry)) (now (interrupt .entry) ∷ []) (stepOf r m t)) ⌝ }
 {
-    writing::write(s, mem, tables, out)
+    let a = r.answer;
+    let n = step_number(a);
+    if n != 0 {
+        return n;
+    }
+    let after = r.state;
+    put_state(after, state);
+    *interrupt = interrupt_given(a);
+    0
 }
 
-// A part of the lent memory or of the lent page tables; a refused view is empty.
-pub fn view<'a>(
-    kind: Target,
+// One step. `interrupt` gets the interrupt's number, 0 if none.
+#[no_mangle]
+pub extern "C" fn nd110_step(
+    state: &mut [u16],
+    mem: &mut [u16],
+    tables: &mut [u16],
+    interrupt: &mut u16,
+) -> u16
+    ensures { λ r. ⌜ leftOf r (now (state .exit)) (now (mem .exit)) (now (tables .exit)) (now (interrupt .exit) ∷ [])
+        ≡ hostStep (now (state .entry)) (now (mem .entry)) (now (tables .entry)) (now (interrupt .entry) ∷ []) ⌝ }
+{
+    if state.len() != 154 {
+        return BAD_CALL;
+    }
+    let r = step(state_in(state), mem, tables);
+    tell_step(r, state, interrupt)
+}
+
+// A run's reason, 0 for one that was refused.
+fn reason_given(a: RunAnswer) -> u16
+    ensures { λ n. ⌜ n ≡ reasonGiven a ⌝ }
+{
+    match a {
+        RunAnswer::Ran(_, w) => reason_number(w),
+        RunAnswer::Refused(_) => 0,
+    }
+}
+
+// What a run answered, to the lent words.
+fn tell(r: Ran, state: &mut [u16], steps: &mut u64, reason: &mut u16) -> u16
+    requires { ⌜ length (now state) ≡ 154 ⌝ }
+    ensures { λ n. ⌜ ((m t : List ℕ)
+        → leftOf n (now (state .exit)) m t (now (steps .exit) ∷ now (reason .exit) ∷ [])
+        ≡ runEnd (now (state .entry)) (now (steps .entry) ∷ now (reason .entry) ∷ []) (runOf r m t)) ⌝ }
+{
+    let a = r.answer;
+    let n = run_number(a);
+    if n != 0 {
+        return n;
+    }
+    let after = r.state;
+    put_state(after, state);
+    *steps = steps_taken(a);
+    *reason = reason_given(a);
+    0
+}
+
+// Either run.
+fn run_by(s: State, mem: &mut [u16], tables: &mut [u16], n: u64, first: bool) -> Ran
+    ensures { λ r. ⌜ runOf r (now (mem .exit)) (now (tables .exit))
+        ≡ runCall first n s (now (mem .entry)) (now (tables .entry)) ⌝ }
+{
+    if first {
+        return to_interrupt(s, mem, tables, n);
+    }
+    through(s, mem, tables, n)
+}
+
+// Either run of the words' state.
+fn run_words(
+    state: &mut [u16],
+    mem: &mut [u16],
+    tables: &mut [u16],
+    n: u64,
+    first: bool,
+    steps: &mut u64,
+    reason: &mut u16,
+) -> u16
+    ensures { λ r. ⌜ leftOf r (now (state .exit)) (now (mem .exit)) (now (tables .exit))
+        (now (steps .exit) ∷ now (reason .exit) ∷ [])
+        ≡ hostRun first n (now (state .entry)) (now (mem .entry)) (now (tables .entry))
+        (now (steps .entry) ∷ now (reason .entry) ∷ []) ⌝ }
+{
+    if state.len() != 154 {
+        return BAD_CALL;
+    }
+    let r = run_by(state_in(state), mem, tables, n, first);
+    tell(r, state, steps, reason)
+}
+
+// At most n steps, interrupts and changes of level included. `steps` gets the steps taken, `reason` the reason's
+// number.
+#[no_mangle]
+pub extern "C" fn nd110_run(
+    state: &mut [u16],
+    mem: &mut [u16],
+    tables: &mut [u16],
+    n: u64,
+    steps: &mut u64,
+    reason: &mut u16,
+) -> u16
+    ensures { λ r. ⌜ leftOf r (now (state .exit)) (now (mem .exit)) (now (tables .exit))
+        (now (steps .exit) ∷ now (reason .exit) ∷ [])
+        ≡ hostRun false n (now (state .entry)) (now (mem .entry)) (now (tables .entry))
+        (now (steps .entry) ∷ now (reason .entry) ∷ []) ⌝ }
+{
+    run_words(state, mem, tables, n, false, steps, reason)
+}
+
+// At most n steps, up to the first that gives an interrupt, or before a change of level.
+#[no_mangle]
+pub extern "C" fn nd110_run_to_interrupt(
+    state: &mut [u16],
+    mem: &mut [u16],
+    tables: &mut [u16],
+    n: u64,
+    steps: &mut u64,
+    reason: &mut u16,
+) -> u16
+    ensures { λ r. ⌜ leftOf r (now (state .exit)) (now (mem .exit)) (now (tables .exit))
+        (now (steps .exit) ∷ now (reason .exit) ∷ [])
+        ≡ hostRun true n (now (state .entry)) (now (mem .entry)) (now (tables .entry))
+        (now (steps .entry) ∷ now (reason .entry) ∷ []) ⌝ }
+{
+    run_words(state, mem, tables, n, true, steps, reason)
+}
+
+// What an operation answered that tells no more, and the state that it left, to the lent words.
+fn tell_answer(a: Answer, after: State, state: &mut [u16]) -> u16
+    requires { ⌜ length (now state) ≡ 154 ⌝ }
+    ensures { λ n. ⌜ ((m t : List ℕ)
+        → leftOf n (now (state .exit)) m t [] ≡ answerEnd (now (state .entry)) a after m t) ⌝ }
+{
+    let n = answer_number(a);
+    if n != 0 {
+        return n;
+    }
+    put_state(after, state);
+    0
+}
+
+// A device's interrupt.
+#[no_mangle]
+pub extern "C" fn nd110_raise(state: &mut [u16], level: u16, mem: &[u16], tables: &[u16]) -> u16
+    ensures { λ r. ⌜ leftOf r (now (state .exit)) (now (mem .entry)) (now (tables .entry)) []
+        ≡ hostRaise level (now (state .entry)) (now (mem .entry)) (now (tables .entry)) ⌝ }
+{
+    if state.len() != 154 {
+        return BAD_CALL;
+    }
+    let r = raise(state_in(state), level, mem, tables);
+    let a = r.answer;
+    let after = r.state;
+    tell_answer(a, after, state)
+}
+
+// The machine of an image.
+#[no_mangle]
+pub extern "C" fn nd110_load(
+    state: &mut [u16],
+    image: &[u16],
+    mem: &mut [u16],
+    tables: &mut [u16],
+) -> u16
+    ensures { λ r. ⌜ leftOf r (now (state .exit)) (now (mem .exit)) (now (tables .exit)) []
+        ≡ hostLoad (now (image .entry)) (now (state .entry)) (now (mem .entry)) (now (tables .entry)) ⌝ }
+{
+    if state.len() != 154 {
+        return BAD_CALL;
+    }
+    let r = operations::load(state_in(state), image, mem, tables);
+    let a = r.answer;
+    let after = r.state;
+    tell_answer(a, after, state)
+}
+
+// The machine as an image; words of the output past it stay.
+#[no_mangle]
+pub extern "C" fn nd110_write(state: &[u16], mem: &[u16], tables: &[u16], out: &mut [u16]) -> u16
+    ensures { λ r. ⌜ r ≡ hostWrite (now (state .entry)) (now (mem .entry)) (now (tables .entry)) (now (out .entry)) ⌝ }
+    ensures { λ r. ⌜ now (out .exit)
+        ≡ hostWritten (now (state .entry)) (now (mem .entry)) (now (tables .entry)) (now (out .entry)) ⌝ }
+{
+    if state.len() != 154 {
+        return BAD_CALL;
+    }
+    answer_number(operations::write(state_in(state), mem, tables, out))
+}
+
+// The kinds of image entries that can be viewed: 1 memory, 4 page tables.
+fn known_target(kind: u16) -> bool
+    ensures { λ r. ⌜ r ≡ knownTarget kind ⌝ }
+{
+    if kind == 1 {
+        return true;
+    }
+    kind == 4
+}
+
+fn target_named(kind: u16) -> Target
+    ensures { λ r. ⌜ r ≡ targetNamed kind ⌝ }
+{
+    if kind == 1 {
+        return Target::Memory;
+    }
+    Target::Tables
+}
+
+// The call beside view, which tells its number.
+#[no_mangle]
+pub extern "C" fn nd110_view_answer(
+    kind: u16,
+    start: usize,
+    len: usize,
+    mem: &[u16],
+    tables: &[u16],
+) -> u16
+    ensures { λ r. ⌜ r ≡ hostViewAnswer kind start len (now (mem .entry)) (now (tables .entry)) ⌝ }
+{
+    if known_target(kind) {
+        return answer_number(operations::view_answer(target_named(kind), start, len, mem, tables));
+    }
+    BAD_CALL
+}
+
+// A part of memory or page tables, to the front of the output; words of the output past it stay.
+#[no_mangle]
+pub extern "C" fn nd110_view<'a>(
+    kind: u16,
     start: usize,
     len: usize,
     mem: &'a [u16],
     tables: &'a [u16],
-) -> &'a [u16]
-    ensures { λ r. ⌜ now r ≡ viewed kind start len (now (mem .entry)) (now (tables .entry)) ⌝ }
+    out: &mut [u16],
+) -> u16
+    ensures { λ r. ⌜ r ≡ hostView kind start len (now (mem .entry)) (now (tables .entry))
+        (length (now (out .entry))) ⌝ }
+    ensures { λ r. ⌜ now (out .exit)
+        ≡ hostViewed kind start len (now (mem .entry)) (now (tables .entry)) (now (out .entry)) ⌝ }
 {
-    views::view(kind, start, len, mem, tables)
-}
-
-// The call beside it, which tells the view's number. Refusals 1 and 9.
-pub fn view_answer(kind: Target, start: usize, len: usize, mem: &[u16], tables: &[u16]) -> Answer
-    ensures { λ r. ⌜ r ≡ viewAnswer kind start len (now (mem .entry)) (now (tables .entry)) ⌝ }
-{
-    views::view_answer(kind, start, len, mem, tables)
+    if out.len() < len {
+        return BAD_CALL;
+    }
+    let n = nd110_view_answer(kind, start, len, mem, tables);
+    if known_target(kind) {
+        let part = operations::view(target_named(kind), start, len, mem, tables);
+        copy(out, 0, part, 0, part.len());
+    }
+    n
 }

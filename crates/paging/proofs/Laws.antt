@@ -4,13 +4,15 @@ use Prim.Native.Nat.{ℕ, _/_, _%_, _<_}
 use native.Mathlib.Omega.{arith}
 use native.Mathlib.Decide.{ℕ-discrete}
 use mathlib.Core.Path.{_≡_, refl}
-use mathlib.Core.Bool.{Bool, true, false, cond, not, _&&_, _||_}
+use mathlib.Core.Bool.{Bool, true, false, cond, not, _||_, and-false}
 use mathlib.Core.List.{List}
 use lib.ListN.{getD, set}
 use lib.Dec.{ltb, eqb}
 use borrow.Author.Tests.{ltb-true, eq-eqb, ne-eqb}
 use Rattle.isa.specs.Machine.{bit}
-use Rattle.isa.specs.Pages.{Entry, entryOf, entryAt, slotOf, somePermit, needed, ringAllows, physical, pagingStatus, inMemory, inTables, withinMemory, judged, tableOf, inWindow, translate, passes, markOf, marked}
+use Rattle.isa.specs.Pages.{Entry, entryOf, entryAt, slotOf, somePermit, needed, ringAllows, physical, pagingStatus}
+use Rattle.isa.specs.Pages.{inMemory, inTables, withinMemory, judged, tableOf, inWindow, translate, passes, markOf}
+use Rattle.isa.specs.Pages.{marked}
 use Rattle.isa.specs.declared.access.Access.{Access}
 use Rattle.isa.specs.declared.access.Kind.{Kind}
 use Rattle.isa.specs.declared.access.Kind.the-variants.{Fetch, Read, Write, Indirect}
@@ -41,7 +43,8 @@ all-zero e l p h = go (e / 8192) (e / 32768) (omega arith) (omega arith) p h
 pub read-or-fetch : (e : ℕ) → not (eqb (e / 8192 % 4) 0) ≡ (entryOf e .read || entryOf e .fetch)
 read-or-fetch e = go (ℕ-discrete (e / 16384 % 2) 1) (ℕ-discrete (e / 8192 % 2) 1)
   where
-    go : Dec (e / 16384 % 2 ≡ 1) → Dec (e / 8192 % 2 ≡ 1) → not (eqb (e / 8192 % 4) 0) ≡ (entryOf e .read || entryOf e .fetch)
+    go : Dec (e / 16384 % 2 ≡ 1) → Dec (e / 8192 % 2 ≡ 1)
+        → not (eqb (e / 8192 % 4) 0) ≡ (entryOf e .read || entryOf e .fetch)
     go (yes p) d = simp (eq-eqb _ _ p, ne-eqb (e / 8192 % 4) 0 (λ q. omega (arith, p, q)))
     go (no p) (yes q) = simp (ne-eqb _ _ p, eq-eqb _ _ q, ne-eqb (e / 8192 % 4) 0 (λ z. omega (arith, q, z)))
     go (no p) (no q) = simp (ne-eqb _ _ p, ne-eqb _ _ q, eq-eqb (e / 8192 % 4) 0 (both-zero e p q))
@@ -49,11 +52,14 @@ read-or-fetch e = go (ℕ-discrete (e / 16384 % 2) 1) (ℕ-discrete (e / 8192 % 
 pub any-permit : (e : ℕ) → e < 65536 → not (eqb (e / 8192) 0) ≡ somePermit (entryOf e)
 any-permit e l = go (ℕ-discrete (e / 32768 % 2) 1) (ℕ-discrete (e / 16384 % 2) 1) (ℕ-discrete (e / 8192 % 2) 1)
   where
-    go : Dec (e / 32768 % 2 ≡ 1) → Dec (e / 16384 % 2 ≡ 1) → Dec (e / 8192 % 2 ≡ 1) → not (eqb (e / 8192) 0) ≡ somePermit (entryOf e)
+    go : Dec (e / 32768 % 2 ≡ 1) → Dec (e / 16384 % 2 ≡ 1) → Dec (e / 8192 % 2 ≡ 1)
+        → not (eqb (e / 8192) 0) ≡ somePermit (entryOf e)
     go (yes p) d f = simp (eq-eqb _ _ p, ne-eqb (e / 8192) 0 (λ z. omega (arith, p, z)))
     go (no p) (yes q) f = simp (ne-eqb _ _ p, eq-eqb _ _ q, ne-eqb (e / 8192) 0 (λ z. omega (arith, q, z)))
-    go (no p) (no q) (yes r) = simp (ne-eqb _ _ p, ne-eqb _ _ q, eq-eqb _ _ r, ne-eqb (e / 8192) 0 (λ z. omega (arith, r, z)))
-    go (no p) (no q) (no r) = simp (ne-eqb _ _ p, ne-eqb _ _ q, ne-eqb _ _ r, eq-eqb (e / 8192) 0 (all-zero e l p (both-zero e q r)))
+    go (no p) (no q) (yes r) =
+        simp (ne-eqb _ _ p, ne-eqb _ _ q, eq-eqb _ _ r, ne-eqb (e / 8192) 0 (λ z. omega (arith, r, z)))
+    go (no p) (no q) (no r) =
+        simp (ne-eqb _ _ p, ne-eqb _ _ q, ne-eqb _ _ r, eq-eqb (e / 8192) 0 (all-zero e l p (both-zero e q r)))
 
 -- an entry with the needed permit has some permit
 needed-some : (e : Entry) (k : Kind) → needed e k ≡ true → somePermit e ≡ true
@@ -79,7 +85,8 @@ needed-some e Indirect h = go (e .write)
 
 module _ (e : Entry) (slot words ring : ℕ) (k : Kind) (a : ℕ) where
   pub judged-refused : needed e k ≡ false
-      → judged e slot words ring k a ≡ cond (not (somePermit e)) (PageFault (pagingStatus k 16384 slot)) (Protection (pagingStatus k 16384 slot))
+      → judged e slot words ring k a
+      ≡ cond (not (somePermit e)) (PageFault (pagingStatus k 16384 slot)) (Protection (pagingStatus k 16384 slot))
   unfolding judged
   judged-refused n = simp n
 
@@ -109,10 +116,6 @@ refused-fails false g = refl
 
 -- ---- the three ways of an access: the window, the tables, and paging off
 
-and-false : (b c : Bool) → (b && false && c) ≡ false
-and-false true c = refl
-and-false false c = refl
-
 module _ (t : List ℕ) (words : ℕ) (r : Rights) (x : Access) where
   pub window-translated : inWindow r (x .address) ≡ true → translate t words r x ≡ inTables (x .kind) (x .address % 256)
   unfolding translate
@@ -125,13 +128,16 @@ module _ (t : List ℕ) (words : ℕ) (r : Rights) (x : Access) where
   module _ (h : inWindow r (x .address) ≡ false) where
     pub paged-translated : r .paging ≡ true
         → translate t words r x
-        ≡ judged (entryAt t (slotOf (tableOf r (x .alternate)) (x .address))) (slotOf (tableOf r (x .alternate)) (x .address)) words (r .ring) (x .kind) (x .address)
+        ≡ judged (entryAt t (slotOf (tableOf r (x .alternate)) (x .address)))
+        (slotOf (tableOf r (x .alternate)) (x .address)) words (r .ring) (x .kind) (x .address)
     unfolding translate
     paged-translated on = simp (h, on)
 
     pub paged-marked : r .paging ≡ true
         → marked t words r x
-        ≡ cond (passes (translate t words r x)) (set t (slotOf (tableOf r (x .alternate)) (x .address)) (markOf (x .kind) (getD t (slotOf (tableOf r (x .alternate)) (x .address)) 0))) t
+        ≡ cond (passes (translate t words r x))
+        (set t (slotOf (tableOf r (x .alternate)) (x .address))
+        (markOf (x .kind) (getD t (slotOf (tableOf r (x .alternate)) (x .address)) 0))) t
     unfolding marked
     paged-marked on = simp (h, on)
 
@@ -159,7 +165,8 @@ tables-within words Indirect i h = h
 
 pub physical-within : (words : ℕ) (k : Kind) (p : ℕ) → Within words (withinMemory words k p)
 unfolding withinMemory
-physical-within words k p = decided (Within words) (ltb p words) (λ h. memory-within words k p (ltb-true p words h)) (λ h. tt)
+physical-within words k p =
+    decided (Within words) (ltb p words) (λ h. memory-within words k p (ltb-true p words h)) (λ h. tt)
 
 judged-inside : (e : Entry) (slot words ring : ℕ) (k : Kind) (a : ℕ) → Within words (judged e slot words ring k a)
 unfolding judged
@@ -173,5 +180,6 @@ unfolding translate
 translate-within t words r x =
     either (Within words) (inWindow r (x .address)) (tables-within words (x .kind) (x .address % 256) (omega arith))
     (either (Within words) (r .paging)
-    (judged-inside (entryAt t (slotOf (tableOf r (x .alternate)) (x .address))) (slotOf (tableOf r (x .alternate)) (x .address)) words (r .ring) (x .kind) (x .address))
+    (judged-inside (entryAt t (slotOf (tableOf r (x .alternate)) (x .address)))
+    (slotOf (tableOf r (x .alternate)) (x .address)) words (r .ring) (x .kind) (x .address))
     (physical-within words (x .kind) (x .address)))

@@ -2,8 +2,8 @@
 -- Assumes nothing.
 use Prim.Native.Nat.{ℕ}
 use mathlib.Core.Path.{_≡_, refl, sym, ap, _∙_}
-use mathlib.Core.Bool.{Bool, true, false, _&&_}
-use mathlib.Core.List.{List, [], _∷_, _++_, append-assoc}
+use mathlib.Core.Bool.{true, false, and-false}
+use mathlib.Core.List.{List, [], _∷_, _++_, append-nil, append-assoc}
 use borrow.Author.Tests.{eq-eqb, ne-eqb}
 use Rattle.isa.specs.Pages.{testAll, translate, marked, faultOf, passes}
 use Rattle.isa.specs.declared.access.Access.{Access}
@@ -23,16 +23,14 @@ pub fails-other : (x : Translation) {n : ℕ} → n ≡ faultOf x → (n ≡ 0 �
 fails-other x e z = ne-eqb (faultOf x) 0 (λ q. z (e ∙ q))
 
 -- a failed access marks nothing
-and-false : (b : Bool) → (b && false) ≡ false
-and-false true = refl
-and-false false = refl
-
-unmarked : (t : List ℕ) (words : ℕ) (r : Rights) (x : Access) → passes (translate t words r x) ≡ false → marked t words r x ≡ t
+unmarked : (t : List ℕ) (words : ℕ) (r : Rights) (x : Access) → passes (translate t words r x) ≡ false
+    → marked t words r x ≡ t
 unfolding marked
 unmarked t words r x h = simp (h, and-false)
 
 -- what the code found of an access x: its translation y, the number n of its fault, and the tables v that it left
-pub record Found (t : List ℕ) (words : ℕ) (r : Rights) (x : Access) (y : Translation) (n : ℕ) (v : List ℕ) : Type 0 where
+pub record Found (t : List ℕ) (words : ℕ) (r : Rights) (x : Access) (y : Translation) (n : ℕ)
+    (v : List ℕ) : Type 0 where
   pub place : y ≡ translate t words r x
   pub marks : v ≡ marked t words r x
   pub fault : n ≡ faultOf y
@@ -42,29 +40,39 @@ pub found-by : {t : List ℕ} {words : ℕ} {r : Rights} {x : Access} {y : Trans
     → (y ≡ translate t words r x) × (v ≡ marked t words r x) → n ≡ faultOf y → Found t words r x y n v
 found-by e h = record { place = e .0; marks = e .1; fault = h }
 
-module _ {t : List ℕ} {words : ℕ} {r : Rights} {x : Access} {y : Translation} {n : ℕ} {v : List ℕ} (f : Found t words r x y n v) where
+module _ {t : List ℕ} {words : ℕ} {r : Rights} {x : Access} {y : Translation} {n : ℕ} {v : List ℕ}
+    (f : Found t words r x y n v) where
   pub found-within : Within words y
   found-within = rw (f .place) (translate-within t words r x)
 
   -- it passed, and the accesses after it were tested
-  pub found-passed : {before : List Translation} {xs : List Access} {ps : List Translation} {z : Translation} {u : List ℕ} → n ≡ 0
+  pub found-passed : {before : List Translation} {xs : List Access} {ps : List Translation} {z : Translation}
+      {u : List ℕ} → n ≡ 0
       → Outcome v words r (before ++ y ∷ []) xs ps z u
       → Outcome t words r before (x ∷ xs) ps z u
-  found-passed {before} {xs} {ps} {z} {u} e o = go (ap passes (sym (f .place)) ∙ passes-zero y (f .fault) e) (rw (← f .marks, ← f .place) o)
+  found-passed {before} {xs} {ps} {z} {u} e o =
+      go (ap passes (sym (f .place)) ∙ passes-zero y (f .fault) e) (rw (← f .marks, ← f .place) o)
     where
-      go : passes (translate t words r x) ≡ true → Outcome (marked t words r x) words r (before ++ translate t words r x ∷ []) xs ps z u → Outcome t words r before (x ∷ xs) ps z u
+      go : passes (translate t words r x) ≡ true
+          → Outcome (marked t words r x) words r (before ++ translate t words r x ∷ []) xs ps z u
+          → Outcome t words r before (x ∷ xs) ps z u
       go h q = record {
         tables = simp h (q .tables);
         failed = simp h (q .failed);
-        passed = λ k. simp h (q .passed k ∙ append-assoc before (translate t words r x ∷ []) (testAll (marked t words r x) words r xs .places));
+        passed =
+            λ k. simp h (q .passed k
+            ∙ append-assoc before (translate t words r x ∷ []) (testAll (marked t words r x) words r xs .places));
         within = q .within;
       }
 
   -- it failed
-  pub found-failed : {before : List Translation} {xs : List Access} {ps : List Translation} → (n ≡ 0 → ⊥) → AllWithin words ps → Outcome t words r before (x ∷ xs) ps y v
-  found-failed {before} {xs} {ps} e w = rw (f .place, f .marks) (go (ap passes (sym (f .place)) ∙ fails-other y (f .fault) e))
+  pub found-failed : {before : List Translation} {xs : List Access} {ps : List Translation} → (n ≡ 0 → ⊥)
+      → AllWithin words ps → Outcome t words r before (x ∷ xs) ps y v
+  found-failed {before} {xs} {ps} e w =
+      rw (f .place, f .marks) (go (ap passes (sym (f .place)) ∙ fails-other y (f .fault) e))
     where
-      go : passes (translate t words r x) ≡ false → Outcome t words r before (x ∷ xs) ps (translate t words r x) (marked t words r x)
+      go : passes (translate t words r x) ≡ false
+          → Outcome t words r before (x ∷ xs) ps (translate t words r x) (marked t words r x)
       go h = record {
         tables = simp h (unmarked t words r x h);
         failed = simp h;
@@ -73,9 +81,6 @@ module _ {t : List ℕ} {words : ℕ} {r : Rights} {x : Access} {y : Translation
       }
 
 -- no access is left
-pub done : {t : List ℕ} {words : ℕ} {r : Rights} {ps : List Translation} → AllWithin words ps → Outcome t words r ps [] ps NoAccess t
+pub done : {t : List ℕ} {words : ℕ} {r : Rights} {ps : List Translation} → AllWithin words ps
+    → Outcome t words r ps [] ps NoAccess t
 done {ps = ps} w = record { tables = refl; failed = refl; passed = λ h. sym (append-nil ps); within = w }
-  where
-    append-nil : (l : List Translation) → l ++ [] ≡ l
-    append-nil [] = refl
-    append-nil (x ∷ l) = ap (λ (m : List Translation). x ∷ m) (append-nil l)

@@ -9,9 +9,10 @@ use Rattle.isa.specs.declared.access.Rights.{Rights}
 use Rattle.isa.specs.declared.access.Translation.{Translation}
 use Rattle.paging.specs.Within.{AllWithin}
 
--- By the page tables t, after accesses that passed to the places before, the accesses xs gave the first fault and, if all passed,
--- the places, and left the tables u.
-pub record Outcome (t : List ℕ) (words : ℕ) (r : Rights) (before : List Translation) (xs : List Access) (places : List Translation) (fault : Translation) (u : List ℕ) : Type 0 where
+-- By the page tables t, after accesses that passed to the places before, the accesses xs gave the first fault and, if
+-- all passed, the places, and left the tables u.
+pub record Outcome (t : List ℕ) (words : ℕ) (r : Rights) (before : List Translation) (xs : List Access)
+    (places : List Translation) (fault : Translation) (u : List ℕ) : Type 0 where
   pub tables : u ≡ testAll t words r xs .tables
   pub failed : fault ≡ testAll t words r xs .fault
   pub passed : passes fault ≡ true → places ≡ before ++ testAll t words r xs .places

@@ -3,7 +3,8 @@ use Prim.Native.Nat.{ℕ, _<_}
 use mathlib.Core.Bool.{Bool, true, false}
 use mathlib.Core.List.{List, [], _∷_}
 use Rattle.isa.specs.declared.access.Translation.{Translation}
-use Rattle.isa.specs.declared.access.Translation.the-variants.{NoAccess, Load, Store, LoadTable, StoreTable, Protection, PageFault, OutOfRange}
+use Rattle.isa.specs.declared.access.Translation.the-variants.{NoAccess, Load, Store, LoadTable, StoreTable}
+use Rattle.isa.specs.declared.access.Translation.the-variants.{Protection, PageFault, OutOfRange}
 
 abbrev pub Within : ℕ → Translation → Type 0
 Within words NoAccess = Unit {0}

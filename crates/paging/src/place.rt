@@ -1,4 +1,5 @@
 // What comes of an access: its interrupt, PGS, and the word at its place.
+ghost use Rattle.isa.specs.Machine.{tableWords};
 ghost use mathlib.Core.Path.{_≡_};
 ghost use mathlib.Core.List.{[], _∷_};
 ghost use lib.ListN.{length};
@@ -41,7 +42,7 @@ pub fn pgs_after(old: u16, x: Translation) -> u16
 // The word at a place, 0 where it is not one to load from.
 pub fn word_at(mem: &[u16], tables: &[u16], x: Translation) -> u16
     requires { ⌜ Within (length (now mem)) x ⌝ }
-    requires { ⌜ length (now tables) ≡ 256 ⌝ }
+    requires { ⌜ length (now tables) ≡ tableWords ⌝ }
     ensures { λ w. ⌜ w ≡ wordAt (now (mem .entry)) (now (tables .entry)) x ⌝ }
 {
     match x {
@@ -59,8 +60,9 @@ pub fn word_at(mem: &[u16], tables: &[u16], x: Translation) -> u16
 // The word is stored at a place to store to; nothing at any other.
 pub fn store_at(mem: &mut [u16], tables: &mut [u16], x: Translation, w: u16)
     requires { ⌜ Within (length (now mem)) x ⌝ }
-    requires { ⌜ length (now tables) ≡ 256 ⌝ }
-    ensures { λ _. ⌜ lent (now (mem .exit)) (now (tables .exit)) ≡ storeAll (now (mem .entry)) (now (tables .entry)) (x ∷ []) (w ∷ []) ⌝ }
+    requires { ⌜ length (now tables) ≡ tableWords ⌝ }
+    ensures { λ _. ⌜ lent (now (mem .exit)) (now (tables .exit))
+        ≡ storeAll (now (mem .entry)) (now (tables .entry)) (x ∷ []) (w ∷ []) ⌝ }
 {
     match x {
         Translation::NoAccess => {}

@@ -3,19 +3,55 @@ ghost use mathlib.Core.Path.{_≡_};
 ghost use mathlib.Core.Bool.{cond};
 ghost use Prim.Native.Nat.{_<_};
 ghost use lib.Dec.{eqb};
-ghost use Rattle.isa.specs.Machine.{bit, flagPTM, alternateTableOf, normalTableOf};
+ghost use Rattle.isa.specs.Machine.{bit, flagPTM};
 ghost use Rattle.isa.specs.Pages.{rightsBy};
+ghost use Rattle.paging.specs.Levels.{levelRights, byFlags, onRing};
 use isa::access::Rights;
 
-// The table of the alternate rule, by STS and PCR.
-fn alternate_of(sts: u16, p: u16) -> u16
-    ensures { λ n. ⌜ n ≡ cond (eqb (bit flagPTM sts) 1) (alternateTableOf p) (normalTableOf p) ⌝ }
-    ensures { λ n. ⌜ n < 4 ⌝ }
+// By PCR and the control word for paging, with PTM 1.
+pub fn level_rights(p: u16, paging: u16) -> Rights
+    ensures { λ r. ⌜ r ≡ levelRights p paging ⌝ }
+    ensures { λ r. ⌜ (r .normal < 4) × (r .alternate < 4) ⌝ }
+{
+    Rights {
+        paging: paging == 1,
+        ring: (p % 4) as u32,
+        normal: p / 512 % 4,
+        alternate: p / 128 % 4,
+    }
+}
+
+fn alternate_of(r: Rights, sts: u16) -> u16
+    ensures { λ n. ⌜ n ≡ cond (eqb (bit flagPTM sts) 1) (r .alternate) (r .normal) ⌝ }
 {
     if sts % 2 == 1 {
-        return p / 128 % 4;
+        return r.alternate;
     }
-    p / 512 % 4
+    r.normal
+}
+
+// With PTM of STS.
+pub fn by_flags(r: Rights, sts: u16) -> Rights
+    ensures { λ q. ⌜ q ≡ byFlags r sts ⌝ }
+{
+    Rights {
+        paging: r.paging,
+        ring: r.ring,
+        normal: r.normal,
+        alternate: alternate_of(r, sts),
+    }
+}
+
+// On another ring.
+pub fn on_ring(r: Rights, ring: u32) -> Rights
+    ensures { λ q. ⌜ q ≡ onRing r ring ⌝ }
+{
+    Rights {
+        paging: r.paging,
+        ring: ring,
+        normal: r.normal,
+        alternate: r.alternate,
+    }
 }
 
 // By STS, PCR and the control word for paging.
@@ -23,10 +59,5 @@ pub fn rights(sts: u16, p: u16, paging: u16) -> Rights
     ensures { λ r. ⌜ r ≡ rightsBy sts p paging ⌝ }
     ensures { λ r. ⌜ (r .normal < 4) × (r .alternate < 4) ⌝ }
 {
-    Rights {
-        paging: paging == 1,
-        ring: (p % 4) as u32,
-        normal: p / 512 % 4,
-        alternate: alternate_of(sts, p),
-    }
+    by_flags(level_rights(p, paging), sts)
 }

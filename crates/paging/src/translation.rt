@@ -1,10 +1,12 @@
 // Translation: the page-table window, the tests in order, the mark.
+ghost use Rattle.isa.specs.Machine.{tableWords};
 ghost use mathlib.Core.Path.{_≡_};
 ghost use mathlib.Core.Bool.{cond, not};
 ghost use Prim.Native.Nat.{_<_};
 ghost use lib.ListN.{length, set, getD};
 ghost use Rattle.isa.specs.Address.{access};
-ghost use Rattle.isa.specs.Pages.{entryOf, entryAt, slotOf, somePermit, pagingStatus, inMemory, inTables, withinMemory, judged, inWindow, passes, markOf, marked, translate as translated};
+ghost use Rattle.isa.specs.Pages.{entryOf, entryAt, slotOf, somePermit, pagingStatus, inMemory, inTables};
+ghost use Rattle.isa.specs.Pages.{withinMemory, judged, inWindow, passes, markOf, marked, translate as translated};
 ghost use Rattle.isa.specs.declared.access.Translation.the-variants.{PageFault, Protection};
 use crate::entry::mark;
 use crate::entry::permitted;
@@ -40,7 +42,8 @@ fn in_tables(k: Kind, i: usize) -> Translation
 // The needed permit is missing: no permit at all is a page fault.
 fn refused(e: u16, k: Kind, slot: u16) -> Translation
     requires { ⌜ slot < 256 ⌝ }
-    ensures { λ x. ⌜ x ≡ cond (not (somePermit (entryOf e))) (PageFault (pagingStatus k 16384 slot)) (Protection (pagingStatus k 16384 slot)) ⌝ }
+    ensures { λ x. ⌜ x ≡ cond (not (somePermit (entryOf e))) (PageFault (pagingStatus k 16384 slot))
+        (Protection (pagingStatus k 16384 slot)) ⌝ }
 {
     if some_permit(e) {
         return Translation::Protection(status(k, 16384, slot));
@@ -48,13 +51,15 @@ fn refused(e: u16, k: Kind, slot: u16) -> Translation
     Translation::PageFault(status(k, 16384, slot))
 }
 
-// The access by the entry at the slot, and its mark where it passes. An entry with the needed permit has some permit, so that is
-// asked only where the needed one is missing.
+// The access by the entry at the slot, and its mark where it passes. An entry with the needed permit has some permit,
+// so that is asked only where the needed one is missing.
 fn looked_up(tables: &mut [u16], words: usize, ring: u32, k: Kind, slot: u16, a: u16) -> Translation
     requires { ⌜ slot < 256 ⌝ }
-    requires { ⌜ length (now tables) ≡ 256 ⌝ }
+    requires { ⌜ length (now tables) ≡ tableWords ⌝ }
     ensures { λ x. ⌜ x ≡ judged (entryAt (now (tables .entry)) slot) slot words ring k a ⌝ }
-    ensures { λ x. ⌜ now (tables .exit) ≡ cond (passes x) (set (now (tables .entry)) slot (markOf k (getD (now (tables .entry)) slot 0))) (now (tables .entry)) ⌝ }
+    ensures { λ x. ⌜ now (tables .exit)
+        ≡ cond (passes x) (set (now (tables .entry)) slot (markOf k (getD (now (tables .entry)) slot 0)))
+        (now (tables .entry)) ⌝ }
 {
     let i = slot as usize;
     let e = tables[i];
@@ -104,7 +109,7 @@ pub fn translate(
     a: u16,
 ) -> Translation
     requires { ⌜ (r .normal < 4) × (r .alternate < 4) ⌝ }
-    requires { ⌜ length (now tables) ≡ 256 ⌝ }
+    requires { ⌜ length (now tables) ≡ tableWords ⌝ }
     ensures { λ x. ⌜ x ≡ translated (now (tables .entry)) words r (access k alternate a) ⌝ }
     ensures { λ x. ⌜ now (tables .exit) ≡ marked (now (tables .entry)) words r (access k alternate a) ⌝ }
 {
@@ -120,7 +125,7 @@ pub fn translate(
 // The ring of the entry of an address by the normal table.
 pub fn ring_at(tables: &[u16], r: Rights, a: u16) -> u16
     requires { ⌜ (r .normal < 4) × (r .alternate < 4) ⌝ }
-    requires { ⌜ length (now tables) ≡ 256 ⌝ }
+    requires { ⌜ length (now tables) ≡ tableWords ⌝ }
     ensures { λ n. ⌜ n ≡ entryAt (now (tables .entry)) (slotOf (r .normal) a) .ring ⌝ }
 {
     let i = slot_of(r, false, a) as usize;

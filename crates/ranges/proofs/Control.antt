@@ -1,4 +1,5 @@
--- The running level in range: its registers, its PCR and the control words; what interrupts and privileged instructions leave of them.
+-- The running level in range: its registers, its PCR and the control words; what interrupts and privileged instructions
+-- leave of them.
 -- Assumes nothing.
 use Prim.Native.Nat.{ℕ, zero, suc, _/_, _%_, _<_}
 use native.Mathlib.Omega.{arith}
@@ -9,7 +10,9 @@ use lib.Bits.{bitAnd, bitOr, and-lt, or-lt}
 use borrow.Author.Tests.{ltb-true}
 use Rattle.isa.specs.Machine.{bit, withBit, reg, withFile, withControl, nextCore, ringOf, interruptMask, pcrMask}
 use Rattle.isa.specs.Flags.{complement}
-use Rattle.isa.specs.System.{highestIn, withSwitches, withLevels, withInternal, withPid, withPie, waited, internalWord, afterReading, read, withSts, written, cleared, masked, switched, controlled}
+use Rattle.isa.specs.System.{highestIn, withSwitches, withLevels, withInternal, withPid, withPie, waited}
+use Rattle.isa.specs.System.{internalWord, afterReading, read, withSts, written, cleared, masked, switched}
+use Rattle.isa.specs.System.{controlled}
 use Rattle.isa.specs.Pages.{loweredPcr, lowered}
 use Rattle.isa.specs.Step.{detected, interrupted, gives}
 use Rattle.isa.specs.declared.machine.Control.{Control}
@@ -19,11 +22,13 @@ use Rattle.isa.specs.declared.machine.Register.the-variants.{Sts, A}
 use Rattle.isa.specs.declared.instruction.Readable.{Readable}
 use Rattle.isa.specs.declared.instruction.Readable.the-variants.{Status, Pgs, Pvl, Iic, Pid, Pie, Actl}
 use Rattle.isa.specs.declared.instruction.Writable.{Writable}
-use Rattle.isa.specs.declared.instruction.Writable.the-variants.{Status as ToStatus, Iie as ToIie, Pid as ToPid, Pie as ToPie}
+use Rattle.isa.specs.declared.instruction.Writable.the-variants.{Status as ToStatus, Iie as ToIie, Pid as ToPid}
+use Rattle.isa.specs.declared.instruction.Writable.the-variants.{Pie as ToPie}
 use Rattle.isa.specs.declared.instruction.Maskable.{Maskable}
 use Rattle.isa.specs.declared.instruction.Maskable.the-variants.{Status as InStatus, Pid as InPid, Pie as InPie}
 use Rattle.isa.specs.declared.instruction.ControlOp.{ControlOp}
-use Rattle.isa.specs.declared.instruction.ControlOp.the-variants.{Ion, Iof, Pon, Pof, Pion, Piof, Wait, Tra, Trr, Mcl, Mst}
+use Rattle.isa.specs.declared.instruction.ControlOp.the-variants.{Ion, Iof, Pon, Pof, Pion, Piof, Wait, Tra, Trr, Mcl}
+use Rattle.isa.specs.declared.instruction.ControlOp.the-variants.{Mst}
 use Rattle.isa.proofs.Tests.{either, decided}
 use Rattle.isa.proofs.Bits.{bit-below, bit-even}
 use Rattle.ranges.proofs.Files.{FileFits, reg-word, sts-flags, with-word, with-sts, next-fits}
@@ -80,7 +85,8 @@ switches-fit q i p h a b c = record {
 }
 
 -- PID, PIE and PVL
-pub levels-fit : {k : Control} → ControlFits k → (d e v : ℕ) → d < 65536 → e < 65536 → v < 16 → ControlFits (withLevels k d e v)
+pub levels-fit : {k : Control} → ControlFits k → (d e v : ℕ) → d < 65536 → e < 65536 → v < 16
+    → ControlFits (withLevels k d e v)
 levels-fit q d e v a b c = record {
   interrupts = q .interrupts;
   paging = q .paging;
@@ -134,9 +140,13 @@ interrupted-fits : (n : ℕ) {k : Control} → 0 < n → n < 11 → ControlFits 
 unfolding interrupted
 interrupted-fits n {k} a b q =
     let i : InterruptFits (withBit n 1 (k .iid)) =
-    record { even = bit-even n 1 (k .iid) a (q .iid .even); low = bit-below 11 n 1 (k .iid) b (omega arith) (q .iid .low) } in
+    record {
+      even = bit-even n 1 (k .iid) a (q .iid .even);
+      low = bit-below 11 n 1 (k .iid) b (omega arith) (q .iid .low);
+    } in
     let d : ControlFits (detected n k) = internal-fit q i (q .iie) (q .pgs) in
-    either ControlFits (eqb (bit n (k .iie)) 1) (pid-fits d (bit-below 16 14 1 (k .pid) (omega arith) (omega arith) (q .pid))) d
+    either ControlFits (eqb (bit n (k .iie)) 1)
+    (pid-fits d (bit-below 16 14 1 (k .pid) (omega arith) (omega arith) (q .pid))) d
 
 -- .. and the core
 pub gives-fits : (n : ℕ) {c : Core} → 0 < n → n < 11 → CoreFits c → CoreFits (gives n c)
@@ -198,7 +208,11 @@ reading-fits q Actl = q
 -- TRA
 read-fits : (l : ℕ) {c : Core} → l < 16 → CoreFits c → (r : Readable) → CoreFits (read l c r)
 read-fits l h q r =
-    record { file = with-word (q .file) A refl (internal-word l h q r); pcr = q .pcr; control = reading-fits (q .control) r }
+    record {
+      file = with-word (q .file) A refl (internal-word l h q r);
+      pcr = q .pcr;
+      control = reading-fits (q .control) r;
+    }
 
 -- the low eight bits to STS
 sts-fits : {c : Core} → CoreFits c → (w : ℕ) → CoreFits (withSts c w)
@@ -207,7 +221,9 @@ sts-fits q w = file-fits q (with-sts (q .file) (omega arith))
 -- TRR
 written-fits : {c : Core} → CoreFits c → (r : Writable) → CoreFits (written c r)
 written-fits {c} q ToStatus = sts-fits q (reg (c .file) A)
-written-fits {c} q ToIie = control-fits q (internal-fit (q .control) (q .control .iid) (interrupt-mask-fits (reg (c .file) A)) (q .control .pgs))
+written-fits {c} q ToIie =
+    control-fits q (internal-fit (q .control) (q .control .iid) (interrupt-mask-fits (reg (c .file) A))
+    (q .control .pgs))
 written-fits q ToPid = control-fits q (pid-fits (q .control) (reg-word (q .file) A))
 written-fits q ToPie = control-fits q (pie-fits (q .control) (reg-word (q .file) A))
 
@@ -225,12 +241,14 @@ masked-fits q InPie = control-fits q (pie-fits (q .control) (or-lt 16 _ _ (q .co
 
 -- ION to PIOF
 switched-fits : {c : Core} → CoreFits c → (i p : ℕ) → i < 2 → p < 2 → CoreFits (switched c i p)
-switched-fits {c} q i p a b = control-fits q (switches-fit (q .control) i p (c .control .stopped) a b (q .control .stopped))
+switched-fits {c} q i p a b =
+    control-fits q (switches-fit (q .control) i p (c .control .stopped) a b (q .control .stopped))
 
 -- WAIT
 waited-fits : (l : ℕ) {k : Control} → l < 16 → ControlFits k → ControlFits (waited l k)
 waited-fits l {k} h q =
-    either ControlFits (eqb (k .interrupts) 1) (either ControlFits (eqb l 0) q (pid-fits q (bit-below 16 l 0 (k .pid) h (omega arith) (q .pid))))
+    either ControlFits (eqb (k .interrupts) 1)
+    (either ControlFits (eqb l 0) q (pid-fits q (bit-below 16 l 0 (k .pid) h (omega arith) (q .pid))))
     (switches-fit q (k .interrupts) (k .paging) 1 (q .interrupts) (q .paging) (omega arith))
 
 -- each of them at level l

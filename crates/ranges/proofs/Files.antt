@@ -2,17 +2,18 @@
 -- Assumes nothing.
 use Prim.Native.Nat.{ℕ, _%_, _<_}
 use native.Mathlib.Omega.{arith}
-use mathlib.Core.Path.{_≡_, refl, _∙_}
+use mathlib.Core.Path.{_≡_, refl, sym, subst}
 use mathlib.Core.Bool.{Bool, true, false, _&&_}
-use lib.ListN.{length, length-set}
+use mathlib.Core.List.{[]}
 use lib.Dec.{eqb, leb}
 use borrow.Author.Tests.{eqb-true, eqb-false, leb-false}
-use Rattle.isa.specs.Machine.{bit, withBit, number, reg, withReg, withFlag, next}
+use Rattle.isa.specs.Machine.{bit, withBit, number, reg, withReg, fileWords, withFlag, next}
 use Rattle.isa.specs.Flags.{Sum, adder, withSum, withOverflow}
 use Rattle.isa.specs.Instructions.{isZero, operand, result, takes, putBit, skipIf}
 use Rattle.isa.specs.declared.machine.File.{File}
 use Rattle.isa.specs.declared.machine.Register.{Register}
 use Rattle.isa.specs.declared.machine.Register.the-variants.{Sts, D, P, B, L, A, T, X}
+use Rattle.isa.proofs.Packing.{words-with, word-of}
 use Rattle.isa.proofs.Tests.{either, decided}
 use Rattle.ranges.proofs.Places.{Each, set-each}
 use Rattle.isa.proofs.Bits.{bit-below}
@@ -22,16 +23,15 @@ pub record Fits (i v : ℕ) : Type 0 where
   pub word : v < 65536
   pub flags : i % 8 ≡ 0 → v < 256
 
--- eight words that fit their places
+-- words that fit their places
 pub record FileFits (f : File) : Type 0 where
-  pub eight : length (f .words) ≡ 8
-  pub each : Each Fits (f .words)
+  pub each : Each Fits (fileWords f)
 
 -- ---- what is read
 
 -- a register is a word
 pub reg-word : {f : File} → FileFits f → (r : Register) → reg f r < 65536
-reg-word h r = h .each (number r) .word
+reg-word {f} h r = subst (λ (v : ℕ). v < 65536) (word-of f [] r) (h .each (number r) .word)
 
 -- STS holds eight flags
 pub sts-flags : {f : File} → FileFits f → reg f Sts < 256
@@ -60,10 +60,12 @@ number-below X = omega arith
 
 -- a register takes what fits its place
 pub with-fits : {f : File} → FileFits f → (r : Register) {v : ℕ} → Fits (number r) v → FileFits (withReg f r v)
-with-fits {f} h r {v} q = record { eight = length-set (f .words) (number r) v ∙ h .eight; each = set-each Fits (f .words) (number r) v (h .each) q }
+with-fits {f} h r {v} q =
+    record { each = subst (Each Fits) (sym (words-with f r v)) (set-each Fits (fileWords f) (number r) v (h .each) q) }
 
 -- a register other than STS takes any word
-pub with-word : {f : File} → FileFits f → (r : Register) {v : ℕ} → isZero r ≡ false → v < 65536 → FileFits (withReg f r v)
+pub with-word : {f : File} → FileFits f → (r : Register) {v : ℕ} → isZero r ≡ false → v < 65536
+    → FileFits (withReg f r v)
 with-word h r {v} z q =
     let n : number r ≡ 0 → ⊥ = eqb-false (number r) 0 z in
     with-fits h r (record { word = q; flags = λ e. absurd (n (omega (arith, number-below r))) })
@@ -95,7 +97,9 @@ put-bit-fits {f} h r n v l q = decided FileFits (isZero r && leb 8 n) (λ e. h) 
     go : (z : Bool) → isZero r ≡ z → (z && leb 8 n) ≡ false → FileFits (withReg f r (withBit n v (reg f r)))
     go true z e =
         let k : n < 8 = leb-false 8 n e in
-        let w : reg f r < 256 = h .each (number r) .flags (omega (arith, eqb-true (number r) 0 z)) in
+        let w : reg f r < 256 =
+        subst (λ (v : ℕ). v < 256) (word-of f [] r)
+        (h .each (number r) .flags (omega (arith, eqb-true (number r) 0 z))) in
         let b : withBit n v (reg f r) < 256 = bit-below 8 n v (reg f r) k q w in
         with-fits h r (record { word = omega arith; flags = λ i. b })
     go false z e = with-word h r z (bit-below 16 n v (reg f r) l q (reg-word h r))
@@ -116,7 +120,8 @@ sum-carry a b c h k l = omega arith
 pub overflow-flags : (o w : ℕ) → w < 256 → withOverflow o w < 256
 unfolding withOverflow
 overflow-flags o w h =
-    either (λ (v : ℕ). v < 256) (eqb o 1) (bit-below 8 5 1 _ (omega arith) (omega arith) (bit-below 8 4 1 w (omega arith) (omega arith) h))
+    either (λ (v : ℕ). v < 256) (eqb o 1)
+    (bit-below 8 5 1 _ (omega arith) (omega arith) (bit-below 8 4 1 w (omega arith) (omega arith) h))
     (bit-below 8 5 0 w (omega arith) (omega arith) h)
 
 -- so do C, O and Q of a sum

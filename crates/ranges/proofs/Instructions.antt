@@ -10,17 +10,23 @@ use lib.Dec.{eqb}
 use lib.Bits.{and-lt, or-lt, xor-lt}
 use lib.IntN.{ℤ}
 use Rattle.isa.specs.Machine.{Words, reg, flag, next, flagM}
-use Rattle.isa.specs.Flags.{bitsOf, complement, adder, product, productOverflow, quotient, remainder, divisionFails, shiftBy, compares}
+use Rattle.isa.specs.Flags.{bitsOf, complement, adder, product, productOverflow, quotient, remainder, divisionFails}
+use Rattle.isa.specs.Flags.{shiftBy, compares}
 use Rattle.isa.specs.Address.{sum, firstAddress, effectiveAddress}
 use Rattle.isa.specs.Instructions
-use Rattle.isa.specs.Instructions.{argumentRegister, Completed, loads, memoryCompletion, complete, isZero, operand, destinationOperand, sourceOperand, carryIn, negative, jumpIf, countX, jumped, combined, added, multiplied, shiftIn, shiftDouble, shifted, bitCompletion, evenX, loadedByte, storedByte, registerProduct, divided, doubleOf}
+use Rattle.isa.specs.Instructions.{argumentRegister, Completed, loads, memoryCompletion, complete, isZero, operand}
+use Rattle.isa.specs.Instructions.{destinationOperand, sourceOperand, carryIn, negative, jumpIf, countX, jumped}
+use Rattle.isa.specs.Instructions.{combined, added, multiplied, shiftIn, shiftDouble, shifted, bitCompletion, evenX}
+use Rattle.isa.specs.Instructions.{loadedByte, storedByte, registerProduct, divided, doubleOf}
 use Rattle.isa.specs.declared.machine.File.{File}
 use Rattle.isa.specs.declared.machine.Register.{Register}
 use Rattle.isa.specs.declared.machine.Register.the-variants.{Sts, D, P, L, A, T, X}
 use Rattle.isa.specs.declared.instruction.Mode.{Mode}
-use Rattle.isa.specs.declared.instruction.Mode.the-variants.{PRelative, BRelative, PIndirect, BIndirect, XRelative, BIndexed, PIndirectIndexed, BIndirectIndexed}
+use Rattle.isa.specs.declared.instruction.Mode.the-variants.{PRelative, BRelative, PIndirect, BIndirect, XRelative}
+use Rattle.isa.specs.declared.instruction.Mode.the-variants.{BIndexed, PIndirectIndexed, BIndirectIndexed}
 use Rattle.isa.specs.declared.instruction.MemoryOp.{MemoryOp}
-use Rattle.isa.specs.declared.instruction.MemoryOp.the-variants.{Stz, Sta, Stt, Stx, Std, Ldd, Stf, Ldf, Min, Lda, Ldt, Ldx, Add, Sub, And, Ora, Mpy, Jmp, Jpl}
+use Rattle.isa.specs.declared.instruction.MemoryOp.the-variants.{Stz, Sta, Stt, Stx, Std, Ldd, Stf, Ldf, Min, Lda}
+use Rattle.isa.specs.declared.instruction.MemoryOp.the-variants.{Ldt, Ldx, Add, Sub, And, Ora, Mpy, Jmp, Jpl}
 use Rattle.isa.specs.declared.instruction.Condition.{Condition}
 use Rattle.isa.specs.declared.instruction.Condition.the-variants.{Jap, Jan, Jaz, Jaf, Jpc, Jnc, Jxz, Jxn}
 use Rattle.isa.specs.declared.instruction.LogicOp.{LogicOp}
@@ -33,14 +39,20 @@ use Rattle.isa.specs.declared.instruction.ShiftTarget.the-variants.{Sht, Shd, S
 use Rattle.isa.specs.declared.instruction.Argument.{Argument}
 use Rattle.isa.specs.declared.instruction.Argument.the-variants.{ArgumentB, ArgumentA, ArgumentT, ArgumentX}
 use Rattle.isa.specs.declared.instruction.BitOp.{BitOp}
-use Rattle.isa.specs.declared.instruction.BitOp.the-variants.{SetZero, SetOne, SetComplement, SetK, SkipZero, SkipOne, SkipComplement, SkipK, Bstc, Bsta, Bldc, Blda, Banc, Band, Borc, Bora}
+use Rattle.isa.specs.declared.instruction.BitOp.the-variants.{SetZero, SetOne, SetComplement, SetK, SkipZero, SkipOne}
+use Rattle.isa.specs.declared.instruction.BitOp.the-variants.{SkipComplement, SkipK, Bstc, Bsta, Bldc, Blda, Banc}
+use Rattle.isa.specs.declared.instruction.BitOp.the-variants.{Band, Borc, Bora}
 use Rattle.isa.specs.declared.instruction.User.{User}
-use Rattle.isa.specs.declared.instruction.User.the-variants.{Memory, Jump, Skip, Logic, RegisterAdd, NoOperation, Shift, SetArgument, AddArgument, Bit, LoadByte, StoreByte, Mix3, Multiply, Divide}
+use Rattle.isa.specs.declared.instruction.User.the-variants.{Memory, Jump, Skip, Logic, RegisterAdd, NoOperation}
+use Rattle.isa.specs.declared.instruction.User.the-variants.{Shift, SetArgument, AddArgument, Bit, LoadByte}
+use Rattle.isa.specs.declared.instruction.User.the-variants.{StoreByte, Mix3, Multiply, Divide}
 use Rattle.isa.proofs.Tests.{either, decided}
 use Rattle.ranges.proofs.Places.{nil-words, cons-words}
 use Rattle.isa.proofs.Signed.{bits-below}
 use Rattle.isa.proofs.Shifts.{Narrow, shift-narrow}
-use Rattle.ranges.proofs.Files.{FileFits, reg-word, sts-flags, bit-two, operand-word, with-word, with-sts, flag-fits, next-fits, skip-fits, result-fits, put-bit-fits, sum-value, sum-carry, overflow-flags, takes-fits}
+use Rattle.ranges.proofs.Files.{FileFits, reg-word, sts-flags, bit-two, operand-word, with-word, with-sts}
+use Rattle.ranges.proofs.Files.{flag-fits, next-fits, skip-fits, result-fits, put-bit-fits, sum-value}
+use Rattle.ranges.proofs.Files.{sum-carry, overflow-flags, takes-fits}
 
 -- what an instruction completes with
 pub record Completes (d : Completed) : Type 0 where
@@ -70,13 +82,16 @@ effective-word PIndirectIndexed d f i h = omega arith
 effective-word BIndirectIndexed d f i h = omega arith
 
 -- A takes its sum with a word
-add-fits : {f : File} → FileFits f → (b c : ℕ) → b < 65536 → c < 2 → FileFits (Instructions.takes f A (adder (reg f A) b c))
-add-fits {f} h b c p q = takes-fits h A (adder (reg f A) b c) refl (sum-value (reg f A) b c) (sum-carry (reg f A) b c (reg-word h A) p q)
+add-fits : {f : File} → FileFits f → (b c : ℕ) → b < 65536 → c < 2
+    → FileFits (Instructions.takes f A (adder (reg f A) b c))
+add-fits {f} h b c p q =
+    takes-fits h A (adder (reg f A) b c) refl (sum-value (reg f A) b c) (sum-carry (reg f A) b c (reg-word h A) p q)
 
 -- A takes the low bits of a product
 multiply-fits : {f : File} → FileFits f → (w : ℕ) → FileFits (multiplied f w)
 multiply-fits {f} h w =
-    with-word (with-sts h (overflow-flags (productOverflow (reg f A) w) (reg f Sts) (sts-flags h))) A refl (bits-below 16 (product (reg f A) w))
+    with-word (with-sts h (overflow-flags (productOverflow (reg f A) w) (reg f Sts) (sts-flags h))) A refl
+    (bits-below 16 (product (reg f A) w))
 
 -- a memory operation at the address a, with the words read
 memory-completes : (o : MemoryOp) {f : File} → FileFits f → (a : ℕ) (ws : List ℕ)
@@ -85,13 +100,19 @@ memory-completes Stz h a ws p w = record { file = h; stores = one-word 0 (omega 
 memory-completes Sta h a ws p w = record { file = h; stores = one-word _ (reg-word h A) }
 memory-completes Stt h a ws p w = record { file = h; stores = one-word _ (reg-word h T) }
 memory-completes Stx h a ws p w = record { file = h; stores = one-word _ (reg-word h X) }
-memory-completes Std {f} h a ws p w = record { file = h; stores = cons-words _ (reg f D ∷ []) (reg-word h A) (one-word _ (reg-word h D)) }
+memory-completes Std {f} h a ws p w =
+    record { file = h; stores = cons-words _ (reg f D ∷ []) (reg-word h A) (one-word _ (reg-word h D)) }
 memory-completes Ldd h a ws p w = loads-completes (with-word (with-word h A refl (w 0)) D refl (w 1))
 memory-completes Stf {f} h a ws p w =
     let d : Words (reg f D ∷ []) = one-word _ (reg-word h D) in
-    record { file = h; stores = cons-words _ (reg f A ∷ reg f D ∷ []) (reg-word h T) (cons-words _ (reg f D ∷ []) (reg-word h A) d) }
-memory-completes Ldf h a ws p w = loads-completes (with-word (with-word (with-word h T refl (w 0)) A refl (w 1)) D refl (w 2))
-memory-completes Min h a ws p w = record { file = skip-fits h (eqb (sum (getD ws 0 0) 1) 0); stores = one-word (sum (getD ws 0 0) 1) (omega arith) }
+    record {
+      file = h;
+      stores = cons-words _ (reg f A ∷ reg f D ∷ []) (reg-word h T) (cons-words _ (reg f D ∷ []) (reg-word h A) d);
+    }
+memory-completes Ldf h a ws p w =
+    loads-completes (with-word (with-word (with-word h T refl (w 0)) A refl (w 1)) D refl (w 2))
+memory-completes Min h a ws p w =
+    record { file = skip-fits h (eqb (sum (getD ws 0 0) 1) 0); stores = one-word (sum (getD ws 0 0) 1) (omega arith) }
 memory-completes Lda h a ws p w = loads-completes (with-word h A refl (w 0))
 memory-completes Ldt h a ws p w = loads-completes (with-word h T refl (w 0))
 memory-completes Ldx h a ws p w = loads-completes (with-word h X refl (w 0))
@@ -155,7 +176,8 @@ added-fits h d a b c p q r =
 -- ---- shifts, bits, bytes, products and quotients
 
 -- a register other than STS shifted, in 16 bits
-shift-in-fits : {f : File} → FileFits f → (r : Register) (k : ShiftKind) (n : ℤ) → isZero r ≡ false → FileFits (shiftIn f r k n)
+shift-in-fits : {f : File} → FileFits f → (r : Register) (k : ShiftKind) (n : ℤ) → isZero r ≡ false
+    → FileFits (shiftIn f r k n)
 shift-in-fits {f} h r k n z =
     let s : Narrow 16 (shiftBy 16 k n (record { value = reg f r; m = flag flagM f })) =
     shift-narrow 16 (omega arith) k n _ (record { value = reg-word h r; m = bit-two 7 (reg f Sts) }) in
@@ -208,15 +230,18 @@ stored-byte-word f w h = either (λ (v : ℕ). v < 65536) (evenX f) (omega arith
 -- A and D take the 32 bits of a product
 product-fits : {f : File} → FileFits f → (s d : Register) → FileFits (registerProduct f s d)
 product-fits {f} h s d =
-    let p : bitsOf 32 (product (operand f s) (operand f d)) < 4294967296 = bits-below 32 (product (operand f s) (operand f d)) in
+    let p : bitsOf 32 (product (operand f s) (operand f d)) < 4294967296 =
+    bits-below 32 (product (operand f s) (operand f d)) in
     either FileFits (isZero d) h (with-word (with-word h A refl (omega arith)) D refl (omega arith))
 
 -- A and D take quotient and remainder, or Z is set
 division-completes : {f : File} → FileFits f → (d : ℕ) → Completes (divided f d)
 unfolding divided
 division-completes {f} h d =
-    either Completes (divisionFails (doubleOf f) d) (record { file = flag-fits h 3 1 (omega arith) (omega arith); stores = nil-words })
-    (loads-completes (with-word (with-word h A refl (bits-below 16 (quotient (doubleOf f) d))) D refl (bits-below 16 (remainder (doubleOf f) d))))
+    either Completes (divisionFails (doubleOf f) d)
+    (record { file = flag-fits h 3 1 (omega arith) (omega arith); stores = nil-words })
+    (loads-completes (with-word (with-word h A refl (bits-below 16 (quotient (doubleOf f) d))) D refl
+    (bits-below 16 (remainder (doubleOf f) d))))
 
 -- ---- every unprivileged instruction
 
@@ -230,25 +255,33 @@ argument-register ArgumentX = refl
 -- with the indirect word i and the words read
 pub completes : (u : User) {f : File} (i : ℕ) (ws : List ℕ)
     → FileFits f → i < 65536 → Words ws → Completes (complete u f i ws)
-completes (Memory o m d) {f} i ws h p w = memory-completes o (next-fits h) (effectiveAddress m d f i) ws (effective-word m d f i p) w
+completes (Memory o m d) {f} i ws h p w =
+    memory-completes o (next-fits h) (effectiveAddress m d f i) ws (effective-word m d f i p) w
 completes (Jump c d) i ws h p w = loads-completes (jump-fits c (next-fits h) _ (omega arith))
 completes (Skip r s d) {f} i ws h p w =
     loads-completes (skip-fits (next-fits h) (not (isZero d) && compares r (operand (next f) d) (operand (next f) s)))
 completes (Logic o cld cm1 s d) i ws h p w =
-    loads-completes (combine-fits o (next-fits h) _ _ s d (source-word (next-fits h) cm1 s) (destination-word (next-fits h) cld d))
+    loads-completes (combine-fits o (next-fits h) _ _ s d (source-word (next-fits h) cm1 s)
+    (destination-word (next-fits h) cld d))
 completes (RegisterAdd c cld cm1 s d) {f} i ws h p w =
-    loads-completes (added-fits (next-fits h) d _ _ _ (destination-word (next-fits h) cld d) (source-word (next-fits h) cm1 s) (carry-two c f))
+    loads-completes (added-fits (next-fits h) d _ _ _ (destination-word (next-fits h) cld d)
+    (source-word (next-fits h) cm1 s) (carry-two c f))
 completes NoOperation i ws h p w = loads-completes (next-fits h)
 completes (Shift t k n) i ws h p w = loads-completes (shift-fits (next-fits h) t k n)
-completes (SetArgument r n) i ws h p w = loads-completes (with-word (next-fits h) (argumentRegister r) (argument-register r) (bits-below 16 n))
+completes (SetArgument r n) i ws h p w =
+    loads-completes (with-word (next-fits h) (argumentRegister r) (argument-register r) (bits-below 16 n))
 completes (AddArgument r n) {f} i ws h p w =
     let v : ℕ = reg f (argumentRegister r) in
-    loads-completes (takes-fits (next-fits h) (argumentRegister r) (adder v (bitsOf 16 n) 0) (argument-register r) (sum-value v (bitsOf 16 n) 0)
+    loads-completes (takes-fits (next-fits h) (argumentRegister r) (adder v (bitsOf 16 n) 0) (argument-register r)
+    (sum-value v (bitsOf 16 n) 0)
     (sum-carry v (bitsOf 16 n) 0 (reg-word h (argumentRegister r)) (bits-below 16 n) (omega arith)))
 completes (Bit o n r) {f} i ws h p w =
-    loads-completes (bit-fits o (next-fits h) r (n % 16) _ _ (omega arith) (bit-two (n % 16) (reg (next f) r)) (bit-two 2 (reg (next f) Sts)))
-completes LoadByte {f} i ws h p w = loads-completes (with-word (next-fits h) A refl (loaded-byte-word f (getD ws 0 0) (w 0)))
-completes StoreByte {f} i ws h p w = record { file = next-fits h; stores = one-word _ (stored-byte-word f (getD ws 0 0) (w 0)) }
+    loads-completes (bit-fits o (next-fits h) r (n % 16) _ _ (omega arith) (bit-two (n % 16) (reg (next f) r))
+    (bit-two 2 (reg (next f) Sts)))
+completes LoadByte {f} i ws h p w =
+    loads-completes (with-word (next-fits h) A refl (loaded-byte-word f (getD ws 0 0) (w 0)))
+completes StoreByte {f} i ws h p w =
+    record { file = next-fits h; stores = one-word _ (stored-byte-word f (getD ws 0 0) (w 0)) }
 completes Mix3 i ws h p w = loads-completes (with-word (next-fits h) X refl (omega arith))
 completes (Multiply s d) i ws h p w = loads-completes (product-fits (next-fits h) s d)
 completes (Divide s) {f} i ws h p w = division-completes (next-fits h) (operand (next f) s)

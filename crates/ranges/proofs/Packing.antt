@@ -1,16 +1,18 @@
 -- The running level taken out of a state and put back, and what leaves the level, all in range.
 -- Assumes nothing.
+use Rattle.isa.specs.Machine.{registerWords}
 use Prim.Native.Nat.{ℕ, suc, _+_, _*_, _%_, _<_}
 use native.Mathlib.Omega.{arith}
-use mathlib.Core.Path.{_≡_, _∙_}
+use mathlib.Core.Path.{_≡_, refl, sym, subst, _∙_}
 use mathlib.Core.Bool.{false, _&&_}
 use mathlib.Core.List.{List, [], _∷_}
-use lib.ListN.{getD, set, drop, length, length-set, length-drop}
-use lib.Seq.{length-take-le, length-paste}
+use lib.ListN.{getD, set, drop, length, length-set}
 use lib.Dec.{eqb}
-use Rattle.isa.specs.Machine.{Words, fileAt, putFile, coreOf, withCore, pcrMask}
+use Rattle.isa.specs.Machine.{Words, fileWords, fileAt, putFile, coreOf, withCore, pcrMask}
 use Rattle.isa.specs.Pages.{Tested, passes, wordsAt, rightsOf}
-use Rattle.isa.specs.Step.{Turn, withPcrs, placeOf, registerAt, kept, putRegister, isP, putOther, pcrLevel, blockOrder, blockRequest, blockWords, putBlock, blockFailed, blockStored, blockLoaded, blockTested, farStage}
+use Rattle.isa.specs.Step.{Turn, withPcrs, placeOf, registerAt, kept, putRegister, isP, putOther, pcrLevel}
+use Rattle.isa.specs.Step.{blockOrder, blockRequest, blockWords, putBlock, blockFailed, blockStored, blockLoaded}
+use Rattle.isa.specs.Step.{blockTested, farStage}
 use Rattle.isa.specs.declared.machine.Core.{Core}
 use Rattle.isa.specs.declared.machine.File.{File}
 use Rattle.isa.specs.declared.machine.State.{State}
@@ -20,12 +22,15 @@ use Rattle.isa.specs.declared.access.Kind.{Kind}
 use Rattle.isa.specs.declared.access.Kind.the-variants.{Read, Write}
 use Rattle.isa.specs.declared.access.Translation.{Translation}
 use Rattle.isa.specs.declared.answer.Far.{Far}
-use Rattle.isa.specs.declared.answer.Far.the-variants.{Nothing, Call, ReadRegister, WriteRegister, ReadPcr, WritePcr, StoreBlock, LoadBlock}
+use Rattle.isa.specs.declared.answer.Far.the-variants.{Nothing, Call, ReadRegister, WriteRegister, ReadPcr, WritePcr}
+use Rattle.isa.specs.declared.answer.Far.the-variants.{StoreBlock, LoadBlock}
+use Rattle.isa.proofs.Packing.{words-at, put-length}
 use Rattle.isa.proofs.Tests.{either, decided}
 use Rattle.ranges.proofs.Places.{Each, set-each, take-each, drop-each, paste-each, nil-words, cons-words}
 use Rattle.ranges.proofs.Files.{Fits, FileFits}
 use Rattle.ranges.proofs.Control.{PcrFits, CoreFits, pcr-mask-fits}
-use Rattle.ranges.proofs.Pages.{FaultFits, LentFits, rights-fit, faulted-fits, tested-fits, tested-fault, stored-fits, read-words}
+use Rattle.ranges.proofs.Pages.{FaultFits, LentFits, rights-fit, faulted-fits, tested-fits, tested-fault}
+use Rattle.ranges.proofs.Pages.{stored-fits, read-words}
 use Rattle.ranges.proofs.States.{StateFits}
 
 -- ---- the running level in the state
@@ -38,12 +43,11 @@ in-regs : (l i v : ℕ) → Fits i v → Fits (l * 8 + i) v
 in-regs l i v h = record { word = h .word; flags = λ e. h .flags (omega arith) }
 
 -- a level's file taken out
-file-at-fits : (b : List ℕ) (l : ℕ) → l < 16 → length b ≡ 128 → Each Fits b → FileFits (fileAt b l)
-unfolding fileAt
+file-at-fits : (b : List ℕ) (l : ℕ) → l < 16 → length b ≡ registerWords → Each Fits b → FileFits (fileAt b l)
 file-at-fits b l k n h = record {
-  eight = length-take-le 8 (drop (l * 8) b) (rw (length-drop (l * 8) b) (omega arith));
-  each = take-each Fits 8 (drop (l * 8) b) (λ i. record { word = omega arith; flags = λ e. omega arith })
-      (λ i. in-file l i (getD (drop (l * 8) b) i 0) (drop-each Fits (l * 8) b h i));
+  each = subst (Each Fits) (sym (words-at b l k n))
+      (take-each Fits 8 (drop (l * 8) b) (λ i. record { word = omega arith; flags = λ e. omega arith })
+      (λ i. in-file l i (getD (drop (l * 8) b) i 0) (drop-each Fits (l * 8) b h i)));
 }
 
 -- the running level taken out
@@ -55,20 +59,18 @@ core-fits {s} h = record {
 }
 
 -- a level's file put back
-put-length : (b : List ℕ) (l : ℕ) (f : File) → l < 16 → length b ≡ 128 → FileFits f → length (putFile b l f) ≡ 128
-unfolding putFile
-put-length b l f k n h = let e = h .eight in length-paste b (l * 8) (f .words) 8 (omega arith) (omega arith) ∙ n
-
-put-each : (b : List ℕ) (l : ℕ) (f : File) → l < 16 → length b ≡ 128 → Each Fits b → FileFits f → Each Fits (putFile b l f)
+put-each : (b : List ℕ) (l : ℕ) (f : File) → l < 16 → length b ≡ registerWords → Each Fits b → FileFits f
+    → Each Fits (putFile b l f)
 unfolding putFile
 put-each b l f k n q h =
-    paste-each Fits b (l * 8) (f .words) 8 (h .eight) (omega arith) q (λ i. in-regs l i (getD (f .words) i 0) (h .each i))
+    paste-each Fits b (l * 8) (fileWords f) 8 refl (omega arith) q
+    (λ i. in-regs l i (getD (fileWords f) i 0) (h .each i))
 
 -- the running level put back
 pub with-core-fits : {s : State} {c : Core} → StateFits s → CoreFits c → StateFits (withCore s c)
 with-core-fits {s} {c} h q = record {
   level = h .level;
-  regs-length = put-length (s .regs) (s .level) (c .file) (h .level) (h .regs-length) (q .file);
+  regs-length = put-length (s .regs) (s .level) (h .level) (h .regs-length) (c .file);
   regs = put-each (s .regs) (s .level) (c .file) (h .level) (h .regs-length) (h .regs) (q .file);
   control = q .control;
   pcr-length = length-set (s .pcr) (s .level) (c .pcr) ∙ h .pcr-length;
@@ -93,7 +95,8 @@ register-word : {s : State} → StateFits s → (l : ℕ) (r : Register) → reg
 register-word h l r = h .regs (placeOf l r) .word
 
 -- .. and takes one
-put-register-fits : {s : State} → StateFits s → (l : ℕ) (r : Register) (w : ℕ) → w < 65536 → StateFits (putRegister s l r w)
+put-register-fits : {s : State} → StateFits s → (l : ℕ) (r : Register) (w : ℕ) → w < 65536
+    → StateFits (putRegister s l r w)
 put-register-fits {s} h l r w q = record {
   level = h .level;
   regs-length = length-set (s .regs) (placeOf l r) (kept r w) ∙ h .regs-length;
@@ -109,7 +112,8 @@ unfolding putOther
 put-other-fits {s} h l r w q = either StateFits (eqb (l % 16) (s .level) && isP r) h (put-register-fits h l r w q)
 
 -- LRB's registers
-put-block-fits : (rs : List Register) {s : State} → StateFits s → (l : ℕ) (ws : List ℕ) → Words ws → StateFits (putBlock s l rs ws)
+put-block-fits : (rs : List Register) {s : State} → StateFits s → (l : ℕ) (ws : List ℕ) → Words ws
+    → StateFits (putBlock s l rs ws)
 put-block-fits [] h l ws w = h
 put-block-fits (r ∷ rs) h l [] w = h
 put-block-fits (r ∷ rs) h l (x ∷ ws) w = put-block-fits rs (put-other-fits h l r x (w 0)) l ws (λ i. w (suc i))
@@ -117,7 +121,8 @@ put-block-fits (r ∷ rs) h l (x ∷ ws) w = put-block-fits rs (put-other-fits h
 -- SRB's words
 block-words : (rs : List Register) {s : State} → StateFits s → (l : ℕ) → Words (blockWords s l rs)
 block-words [] h l = nil-words
-block-words (r ∷ rs) {s} h l = cons-words (registerAt s l r) (blockWords s l rs) (register-word h l r) (block-words rs h l)
+block-words (r ∷ rs) {s} h l =
+    cons-words (registerAt s l r) (blockWords s l rs) (register-word h l r) (block-words rs h l)
 
 -- a level's PCR
 put-pcr-fits : {s : State} → StateFits s → (l p : ℕ) → PcrFits p → StateFits (withPcrs s (set (s .pcr) l p))
@@ -148,7 +153,10 @@ block-stored-fits : {s : State} → StateFits s → (l : ℕ) (m : List ℕ) (r 
 unfolding blockStored
 block-stored-fits {s} h l m r k f =
     decided TurnFits (passes (r .fault))
-    (λ e. record { state = h; lent = stored-fits (r .places) m (r .tables) (blockWords s l blockOrder) k (block-words blockOrder h l) })
+    (λ e. record {
+      state = h;
+      lent = stored-fits (r .places) m (r .tables) (blockWords s l blockOrder) k (block-words blockOrder h l);
+    })
     (λ e. block-failed-fits h (r .fault) m (r .tables) e f k)
 
 -- LRB
@@ -157,7 +165,10 @@ block-loaded-fits : {s : State} → StateFits s → (l : ℕ) (m : List ℕ) (r 
 unfolding blockLoaded
 block-loaded-fits {s} h l m r k f =
     decided TurnFits (passes (r .fault))
-    (λ e. record { state = put-block-fits blockOrder h l (wordsAt m (r .tables) (r .places)) (read-words k (r .places)); lent = k })
+    (λ e. record {
+      state = put-block-fits blockOrder h l (wordsAt m (r .tables) (r .places)) (read-words k (r .places));
+      lent = k;
+    })
     (λ e. block-failed-fits h (r .fault) m (r .tables) e f k)
 
 -- a block's tests
@@ -179,7 +190,8 @@ FarFits (StoreBlock l) = Unit
 FarFits (LoadBlock l) = Unit
 
 -- what the running level left to be done
-pub far-fits : {s : State} → StateFits s → (n : ℕ) (m t : List ℕ) (x : Far) → FarFits x → LentFits m t → TurnFits (farStage s n m t x)
+pub far-fits : {s : State} → StateFits s → (n : ℕ) (m t : List ℕ) (x : Far) → FarFits x → LentFits m t
+    → TurnFits (farStage s n m t x)
 unfolding farStage
 far-fits h n m t Nothing f k = record { state = h; lent = k }
 far-fits h n m t (Call w) f k = record { state = put-register-fits h 14 T w f; lent = k }
@@ -191,7 +203,8 @@ far-fits {s} h n m t ReadPcr f k =
     let w : getD (s .pcr) (pcrLevel s) 0 < 65536 = omega (arith, h .pcr (pcrLevel s) .low) in
     record { state = put-register-fits h (s .level) A (getD (s .pcr) (pcrLevel s) 0) w; lent = k }
 far-fits {s} h n m t WritePcr f k =
-    let w : ℕ = registerAt s (s .level) A in record { state = put-pcr-fits h (pcrLevel s) (pcrMask w) (pcr-mask-fits w); lent = k }
+    let w : ℕ = registerAt s (s .level) A in
+    record { state = put-pcr-fits h (pcrLevel s) (pcrMask w) (pcr-mask-fits w); lent = k }
 far-fits {s} h n m t (StoreBlock l) f k =
     block-stored-fits h l m (blockTested Write s m t) (block-tested-fits Write s m t k) (block-fault Write s m t)
 far-fits {s} h n m t (LoadBlock l) f k =

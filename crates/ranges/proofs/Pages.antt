@@ -9,7 +9,9 @@ use lib.ListN.{drop, getD, set}
 use lib.Dec.{eqb, ltb}
 use borrow.Author.Tests.{eqb-false}
 use Rattle.isa.specs.Machine.{Words, flag, flagPTM}
-use Rattle.isa.specs.Pages.{Entry, entryAt, slotOf, somePermit, needed, ringAllows, physical, pagingStatus, inMemory, inTables, withinMemory, judged, tableOf, inWindow, translate, faultOf, pgsAfter, passes, markOf, marked, Tested, testAll, wordAt, wordsAt, Lent, storeAll, rightsOf}
+use Rattle.isa.specs.Pages.{Entry, entryAt, slotOf, somePermit, needed, ringAllows, physical, pagingStatus, inMemory}
+use Rattle.isa.specs.Pages.{inTables, withinMemory, judged, tableOf, inWindow, translate, faultOf, pgsAfter, passes}
+use Rattle.isa.specs.Pages.{markOf, marked, Tested, testAll, wordAt, wordsAt, Lent, storeAll, rightsOf}
 use Rattle.isa.specs.Step.{faulted}
 use Rattle.isa.specs.declared.machine.Core.{Core}
 use Rattle.isa.specs.declared.access.Access.{Access}
@@ -17,7 +19,8 @@ use Rattle.isa.specs.declared.access.Kind.{Kind}
 use Rattle.isa.specs.declared.access.Kind.the-variants.{Fetch, Read, Write, Indirect}
 use Rattle.isa.specs.declared.access.Rights.{Rights}
 use Rattle.isa.specs.declared.access.Translation.{Translation}
-use Rattle.isa.specs.declared.access.Translation.the-variants.{NoAccess, Load, Store, LoadTable, StoreTable, Protection, PageFault, OutOfRange}
+use Rattle.isa.specs.declared.access.Translation.the-variants.{NoAccess, Load, Store, LoadTable, StoreTable}
+use Rattle.isa.specs.declared.access.Translation.the-variants.{Protection, PageFault, OutOfRange}
 use Rattle.isa.proofs.Tests.{either}
 use Rattle.ranges.proofs.Places.{Each, set-words, nil-words, cons-words, drop-each}
 use Rattle.ranges.proofs.Control.{PgsFits, CoreFits, internal-fit, control-fits, gives-fits}
@@ -31,7 +34,10 @@ pub record RightsFit (r : Rights) : Type 0 where
 
 -- .. as they are two bits of a PCR
 pub rights-fit : (c : Core) → RightsFit (rightsOf c)
-rights-fit c = record { normal = omega arith; alternate = either (λ (n : ℕ). n < 4) (eqb (flag flagPTM (c .file)) 1) (omega arith) (omega arith) }
+rights-fit c = record {
+  normal = omega arith;
+  alternate = either (λ (n : ℕ). n < 4) (eqb (flag flagPTM (c .file)) 1) (omega arith) (omega arith);
+}
 
 -- so does each access
 table-below : {r : Rights} → RightsFit r → (b : Bool) → tableOf r b < 4
@@ -74,22 +80,26 @@ unfolding withinMemory
 within-fits words k p = either FaultFits (ltb p words) (in-memory-fits k p) tt
 
 -- by an entry
-judged-fits : (e : Entry) (slot words ring : ℕ) (k : Kind) (a : ℕ) → slot < 256 → FaultFits (judged e slot words ring k a)
+judged-fits : (e : Entry) (slot words ring : ℕ) (k : Kind) (a : ℕ) → slot < 256
+    → FaultFits (judged e slot words ring k a)
 unfolding judged
 judged-fits e slot words ring k a h =
     either FaultFits (not (somePermit e)) (status-fits k 1 slot (omega arith) h)
     (either FaultFits (not (needed e k)) (status-fits k 1 slot (omega arith) h)
-    (either FaultFits (not (ringAllows e ring)) (status-fits k 0 slot (omega arith) h) (within-fits words k (physical e a))))
+    (either FaultFits (not (ringAllows e ring)) (status-fits k 0 slot (omega arith) h)
+    (within-fits words k (physical e a))))
 
 -- one access
-pub translated-fits : (t : List ℕ) (words : ℕ) {r : Rights} → RightsFit r → (x : Access) → FaultFits (translate t words r x)
+pub translated-fits : (t : List ℕ) (words : ℕ) {r : Rights} → RightsFit r → (x : Access)
+    → FaultFits (translate t words r x)
 unfolding translate
 translated-fits t words {r} h x =
     let i : ℕ = slotOf (tableOf r (x .alternate)) (x .address) in
     let n : tableOf r (x .alternate) < 4 = table-below h (x .alternate) in
     let l : i < 256 = omega arith in
     either FaultFits (inWindow r (x .address)) (in-tables-fits (x .kind) (x .address % 256))
-    (either FaultFits (r .paging) (judged-fits (entryAt t i) i words (r .ring) (x .kind) (x .address) l) (within-fits words (x .kind) (x .address)))
+    (either FaultFits (r .paging) (judged-fits (entryAt t i) i words (r .ring) (x .kind) (x .address) l)
+    (within-fits words (x .kind) (x .address)))
 
 -- PGS after an access
 after-fits : {g : ℕ} → PgsFits g → (x : Translation) → FaultFits x → PgsFits (pgsAfter g x)
@@ -124,7 +134,8 @@ faulted-fits x {c} e f q =
 -- ---- marks and tests
 
 -- what a mark keeps of the tables, the tests of an instruction's accesses keep
-module _ (K : List ℕ → Type 0) (mark : (t : List ℕ) (i : ℕ) (k : Kind) → K t → K (set t i (markOf k (getD t i 0)))) where
+module _ (K : List ℕ → Type 0)
+    (mark : (t : List ℕ) (i : ℕ) (k : Kind) → K t → K (set t i (markOf k (getD t i 0)))) where
   pub marked-keeps : (t : List ℕ) (words : ℕ) (r : Rights) (x : Access) → K t → K (marked t words r x)
   unfolding marked
   marked-keeps t words r x h =
@@ -138,10 +149,12 @@ module _ (K : List ℕ → Type 0) (mark : (t : List ℕ) (i : ℕ) (k : Kind) �
       (tested-keeps xs (marked t words r x) words r (marked-keeps t words r x h)) h
 
 -- the first fault is that of an access
-pub tested-fault : (xs : List Access) (t : List ℕ) (words : ℕ) {r : Rights} → RightsFit r → FaultFits (testAll t words r xs .fault)
+pub tested-fault : (xs : List Access) (t : List ℕ) (words : ℕ) {r : Rights} → RightsFit r
+    → FaultFits (testAll t words r xs .fault)
 tested-fault [] t words h = tt
 tested-fault (x ∷ xs) t words {r} h =
-    either (λ (y : Tested). FaultFits (y .fault)) (passes (translate t words r x)) (tested-fault xs (marked t words r x) words h)
+    either (λ (y : Tested). FaultFits (y .fault)) (passes (translate t words r x))
+    (tested-fault xs (marked t words r x) words h)
     (translated-fits t words h x)
 
 -- a marked entry is a word
@@ -165,15 +178,18 @@ pub record Kept (M T : List ℕ → Type 0) (r : Lent) : Type 0 where
 -- what a store of a word of some kind keeps of memory and tables, a row of stores keeps
 module _ (W : ℕ → Type 0) (M T : List ℕ → Type 0) (store : (l : List ℕ) (i v : ℕ) → M l → W v → M (set l i v))
     (storeTable : (l : List ℕ) (i v : ℕ) → T l → W v → T (set l i v)) where
-  pub stored-keeps : (xs : List Translation) (m t ws : List ℕ) → M m → T t → Each (λ i. W) ws → Kept M T (storeAll m t xs ws)
+  pub stored-keeps : (xs : List Translation) (m t ws : List ℕ) → M m → T t → Each (λ i. W) ws
+      → Kept M T (storeAll m t xs ws)
   stored-keeps [] m t ws p q h = record { memory = p; tables = q }
   stored-keeps (NoAccess ∷ xs) m t ws p q h = stored-keeps xs m t ws p q h
   stored-keeps (Load a ∷ xs) m t ws p q h = stored-keeps xs m t ws p q h
   stored-keeps (Store a ∷ xs) m t ws p q h =
-      stored-keeps xs (set m a (getD ws 0 0)) t (drop 1 ws) (store m a (getD ws 0 0) p (h 0)) q (drop-each (λ i. W) 1 ws h)
+      stored-keeps xs (set m a (getD ws 0 0)) t (drop 1 ws) (store m a (getD ws 0 0) p (h 0)) q
+      (drop-each (λ i. W) 1 ws h)
   stored-keeps (LoadTable a ∷ xs) m t ws p q h = stored-keeps xs m t ws p q h
   stored-keeps (StoreTable a ∷ xs) m t ws p q h =
-      stored-keeps xs m (set t a (getD ws 0 0)) (drop 1 ws) p (storeTable t a (getD ws 0 0) q (h 0)) (drop-each (λ i. W) 1 ws h)
+      stored-keeps xs m (set t a (getD ws 0 0)) (drop 1 ws) p (storeTable t a (getD ws 0 0) q (h 0))
+      (drop-each (λ i. W) 1 ws h)
   stored-keeps (Protection g ∷ xs) m t ws p q h = stored-keeps xs m t ws p q h
   stored-keeps (PageFault g ∷ xs) m t ws p q h = stored-keeps xs m t ws p q h
   stored-keeps (OutOfRange ∷ xs) m t ws p q h = stored-keeps xs m t ws p q h
@@ -186,11 +202,14 @@ pub record LentFits (m t : List ℕ) : Type 0 where
 
 -- .. after a mark
 pub marked-fits : (m t : List ℕ) (words : ℕ) (r : Rights) (x : Access) → LentFits m t → LentFits m (marked t words r x)
-marked-fits m t words r x h = record { memory = h .memory; tables = marked-keeps Words mark-words t words r x (h .tables) }
+marked-fits m t words r x h =
+    record { memory = h .memory; tables = marked-keeps Words mark-words t words r x (h .tables) }
 
 -- .. after the tests of an instruction's accesses
-pub tested-fits : (xs : List Access) (m t : List ℕ) (words : ℕ) (r : Rights) → LentFits m t → LentFits m (testAll t words r xs .tables)
-tested-fits xs m t words r h = record { memory = h .memory; tables = tested-keeps Words mark-words xs t words r (h .tables) }
+pub tested-fits : (xs : List Access) (m t : List ℕ) (words : ℕ) (r : Rights) → LentFits m t
+    → LentFits m (testAll t words r xs .tables)
+tested-fits xs m t words r h =
+    record { memory = h .memory; tables = tested-keeps Words mark-words xs t words r (h .tables) }
 
 -- .. after its stores
 pub stored-fits : (xs : List Translation) (m t ws : List ℕ) → LentFits m t → Words ws

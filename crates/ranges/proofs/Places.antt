@@ -1,4 +1,5 @@
--- What holds of the word at each place of a list, by the place, and is kept where parts of the list are taken or replaced.
+-- What holds of the word at each place of a list, by the place, and is kept where parts of the list are taken or
+-- replaced.
 -- Assumes nothing.
 use Prim.Native.Nat.{ℕ, zero, suc, _+_, _<_}
 use native.Mathlib.Nat.{add-zero, add-suc, suc-add}
@@ -22,7 +23,8 @@ set-each Q (x ∷ xs) (suc i) v h q zero = h zero
 set-each Q (x ∷ xs) (suc i) v h q (suc j) = set-each (λ k. Q (suc k)) xs i v (λ k. h (suc k)) q j
 
 -- words that fit may be stored from a place on
-pub sets-each : (Q : ℕ → ℕ → Type 0) (vs l : List ℕ) (i : ℕ) → Each Q l → Each (λ k. Q (i + k)) vs → Each Q (sets l i vs)
+pub sets-each : (Q : ℕ → ℕ → Type 0) (vs l : List ℕ) (i : ℕ) → Each Q l → Each (λ k. Q (i + k)) vs
+    → Each Q (sets l i vs)
 sets-each Q [] l i h q = h
 sets-each Q (v ∷ vs) l i h q =
     sets-each Q vs (set l i v) (suc i) (set-each Q l i v h (subst (λ (k : ℕ). Q k v) (add-zero i) (q zero)))
@@ -40,7 +42,8 @@ pub drop-each : (Q : ℕ → ℕ → Type 0) (n : ℕ) (l : List ℕ) → Each Q
 drop-each Q n l h i = subst (λ (v : ℕ). Q (n + i) v) (sym (getD-drop n l i 0)) (h (n + i))
 
 -- a whole list pasted into another is its words stored one by one
-pub paste-each : (Q : ℕ → ℕ → Type 0) (b : List ℕ) (i : ℕ) (vs : List ℕ) (n : ℕ) → length vs ≡ n → i + n < suc (length b)
+pub paste-each : (Q : ℕ → ℕ → Type 0) (b : List ℕ) (i : ℕ) (vs : List ℕ) (n : ℕ) → length vs ≡ n
+    → i + n < suc (length b)
     → Each Q b → Each (λ k. Q (i + k)) vs → Each Q (paste b i vs n)
 paste-each Q b i vs n e f h q =
     subst (Each Q)

@@ -29,7 +29,8 @@ zeros-words (suc n) = cons-words 0 (replicate n 0) (omega arith) (zeros-words n)
 pub cleared-sound : (n : ℕ) → Sound (stateOf (replicate 128 0) (replicate 26 0)) (replicate n 0) (replicate 256 0)
 unfolding inRange
 cleared-sound n = record {
-  typed = record { regs-length = refl; pcr-length = refl; regs-words = zeros-words 128; control-words = zeros-words 26 };
+  typed =
+      record { regs-length = refl; pcr-length = refl; regs-words = zeros-words 128; control-words = zeros-words 26 };
   range = refl;
   memory = zeros-words n;
   tables = zeros-words 256;
@@ -39,7 +40,8 @@ cleared-sound n = record {
 -- ---- one step
 
 -- a step keeps a machine sound, for every word, whatever memory and tables hold
-pub step-sound : (s : State) (m t : List ℕ) → Sound s m t → Sound (step s m t .state) (step s m t .memory) (step s m t .tables)
+pub step-sound : (s : State) (m t : List ℕ) → Sound s m t
+    → Sound (step s m t .state) (step s m t .memory) (step s m t .tables)
 step-sound s m t h =
     let r = step-fits (state-fits s (h .typed) (h .range)) m t (record { memory = h .memory; tables = h .tables }) in
     record {
@@ -71,7 +73,8 @@ module _ (K : State → List ℕ → List ℕ → Type 0)
       let q : K (r .state) (r .memory) (r .tables) = one s m t h in
       either RunKeeps (isStopped s) h
       (either RunKeeps (first && changeDue s) h
-      (either RunKeeps (first && not (eqb (r .gave) 0)) q (run-keeps first n (suc k) (r .state) (r .memory) (r .tables) q)))
+      (either RunKeeps (first && not (eqb (r .gave) 0)) q
+      (run-keeps first n (suc k) (r .state) (r .memory) (r .tables) q)))
 
 -- a run keeps a machine sound
 pub run-sound : (first : Bool) (n k : ℕ) (s : State) (m t : List ℕ) → Sound s m t

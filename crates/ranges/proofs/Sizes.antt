@@ -8,13 +8,17 @@ use lib.Dec.{ltb}
 use Rattle.isa.specs.Machine.{nextCore, reg, coreOf, withCore}
 use Rattle.isa.specs.Instructions.{indirectRequest, request, complete, Completed}
 use Rattle.isa.specs.Pages.{translate, marked, testAll, Tested, passes, wordAt, wordsAt, storeAll, rightsOf, markOf}
-use Rattle.isa.specs.Step.{Part, Turn, finished, operandsTested, operands, indirectTested, userStage, physicalAddress, examined, deposited, systemStage, privileged, instructionStage, instructionOf, afterFetch, fetched, fetchOf, stepIn, blockOrder, blockRequest, blockWords, blockStored, blockLoaded, blockTested, farStage, settled, isStopped, changeDue, step}
+use Rattle.isa.specs.Step.{Part, Turn, finished, operandsTested, operands, indirectTested, userStage, physicalAddress}
+use Rattle.isa.specs.Step.{examined, deposited, systemStage, privileged, instructionStage, instructionOf, afterFetch}
+use Rattle.isa.specs.Step.{fetched, fetchOf, stepIn, blockOrder, blockRequest, blockWords, blockStored, blockLoaded}
+use Rattle.isa.specs.Step.{blockTested, farStage, settled, isStopped, changeDue, step}
 use Rattle.isa.specs.declared.machine.Core.{Core}
 use Rattle.isa.specs.declared.machine.State.{State}
 use Rattle.isa.specs.declared.machine.Register.the-variants.{T}
 use Rattle.isa.specs.declared.instruction.User.{User}
 use Rattle.isa.specs.declared.instruction.System.{System}
-use Rattle.isa.specs.declared.instruction.System.the-variants.{Control as ControlOf, TraPgc, TrrPcr, Irr, Irw, Srb, Lrb, Exam, Depo, Iox, Ioxt, Ident}
+use Rattle.isa.specs.declared.instruction.System.the-variants.{Control as ControlOf, TraPgc, TrrPcr, Irr, Irw, Srb}
+use Rattle.isa.specs.declared.instruction.System.the-variants.{Lrb, Exam, Depo, Iox, Ioxt, Ident}
 use Rattle.isa.specs.declared.instruction.Instruction.{Instruction}
 use Rattle.isa.specs.declared.instruction.Instruction.the-variants.{Unprivileged, Privileged, Execute, Monitor, Illegal}
 use Rattle.isa.specs.declared.access.Access.{Access}
@@ -23,7 +27,8 @@ use Rattle.isa.specs.declared.access.Kind.the-variants.{Read, Write}
 use Rattle.isa.specs.declared.access.Rights.{Rights}
 use Rattle.isa.specs.declared.access.Translation.{Translation}
 use Rattle.isa.specs.declared.answer.Far.{Far}
-use Rattle.isa.specs.declared.answer.Far.the-variants.{Nothing, Call, ReadRegister, WriteRegister, ReadPcr, WritePcr, StoreBlock, LoadBlock}
+use Rattle.isa.specs.declared.answer.Far.the-variants.{Nothing, Call, ReadRegister, WriteRegister, ReadPcr, WritePcr}
+use Rattle.isa.specs.declared.answer.Far.the-variants.{StoreBlock, LoadBlock}
 use Rattle.ranges.specs.Sound.{Sized}
 use Rattle.isa.proofs.Tests.{either}
 use Rattle.ranges.proofs.Pages.{marked-keeps, tested-keeps, stored-keeps}
@@ -53,27 +58,34 @@ module _ (j k : ℕ) where
 
   -- a mark
   marked-size : (m t : List ℕ) (words : ℕ) (r : Rights) (x : Access) → Sized j k m t → Sized j k m (marked t words r x)
-  marked-size m t words r x h = record { memory = h .memory; tables = marked-keeps (Long k) (mark-long k) t words r x (h .tables) }
+  marked-size m t words r x h =
+      record { memory = h .memory; tables = marked-keeps (Long k) (mark-long k) t words r x (h .tables) }
 
   -- the tests of an instruction's accesses
-  tested-size : (xs : List Access) (m t : List ℕ) (words : ℕ) (r : Rights) → Sized j k m t → Sized j k m (testAll t words r xs .tables)
-  tested-size xs m t words r h = record { memory = h .memory; tables = tested-keeps (Long k) (mark-long k) xs t words r (h .tables) }
+  tested-size : (xs : List Access) (m t : List ℕ) (words : ℕ) (r : Rights) → Sized j k m t
+      → Sized j k m (testAll t words r xs .tables)
+  tested-size xs m t words r h =
+      record { memory = h .memory; tables = tested-keeps (Long k) (mark-long k) xs t words r (h .tables) }
 
   -- its stores
-  stored-size : (xs : List Translation) (m t ws : List ℕ) → Sized j k m t → Sized j k (storeAll m t xs ws .memory) (storeAll m t xs ws .tables)
+  stored-size : (xs : List Translation) (m t ws : List ℕ) → Sized j k m t
+      → Sized j k (storeAll m t xs ws .memory) (storeAll m t xs ws .tables)
   stored-size xs m t ws h =
-      let r = stored-keeps (λ v. Unit) (Long j) (Long k) (set-long j) (set-long k) xs m t ws (h .memory) (h .tables) (λ i. tt) in
+      let r = stored-keeps (λ v. Unit) (Long j) (Long k) (set-long j) (set-long k) xs m t ws (h .memory) (h .tables)
+      (λ i. tt) in
       record { memory = r .memory; tables = r .tables }
 
   -- ---- the running level
 
   -- its words stored
-  finished-size : (c : Core) (m t : List ℕ) (xs : List Translation) (d : Completed) → Sized j k m t → PartSized (finished c m t xs d)
+  finished-size : (c : Core) (m t : List ℕ) (xs : List Translation) (d : Completed) → Sized j k m t
+      → PartSized (finished c m t xs d)
   unfolding finished
   finished-size c m t xs d h = stored-size xs m t (d .stores) h
 
   -- its accesses tested
-  operands-tested-size : (c : Core) (m : List ℕ) (u : User) (i : ℕ) (r : Tested) → Sized j k m (r .tables) → PartSized (operandsTested c m u i r)
+  operands-tested-size : (c : Core) (m : List ℕ) (u : User) (i : ℕ) (r : Tested) → Sized j k m (r .tables)
+      → PartSized (operandsTested c m u i r)
   unfolding operandsTested
   operands-tested-size c m u i r h =
       let d : Completed = complete u (c .file) i (wordsAt m (r .tables) (r .places)) in
@@ -87,10 +99,12 @@ module _ (j k : ℕ) where
       operands-tested-size c m u i (testAll t (length m) (rightsOf c) xs) (tested-size xs m t (length m) (rightsOf c) h)
 
   -- the access for its indirect word tested
-  indirect-tested-size : (c : Core) (m : List ℕ) (u : User) (r : Tested) → Sized j k m (r .tables) → PartSized (indirectTested c m u r)
+  indirect-tested-size : (c : Core) (m : List ℕ) (u : User) (r : Tested) → Sized j k m (r .tables)
+      → PartSized (indirectTested c m u r)
   unfolding indirectTested
   indirect-tested-size c m u r h =
-      either PartSized (passes (r .fault)) (operands-size c m (r .tables) u (getD (wordsAt m (r .tables) (r .places)) 0 0) h) h
+      either PartSized (passes (r .fault))
+      (operands-size c m (r .tables) u (getD (wordsAt m (r .tables) (r .places)) 0 0) h) h
 
   -- an unprivileged instruction
   user-size : (c : Core) (m t : List ℕ) (u : User) → Sized j k m t → PartSized (userStage c m t u)
@@ -112,13 +126,17 @@ module _ (j k : ℕ) where
   system-size l c m t Exam h = either PartSized (ltb (physicalAddress (c .file)) (length m)) h h
   system-size l c m t Depo h =
       either PartSized (ltb (physicalAddress (c .file)) (length m))
-      (record { memory = set-long j m (physicalAddress (c .file)) (reg (c .file) T) (h .memory) tt; tables = h .tables }) h
+      (record {
+        memory = set-long j m (physicalAddress (c .file)) (reg (c .file) T) (h .memory) tt;
+        tables = h .tables;
+      }) h
   system-size l c m t (Iox n) h = h
   system-size l c m t Ioxt h = h
   system-size l c m t (Ident n) h = h
 
   -- an instruction
-  instruction-size : (l : ℕ) (c : Core) (m t : List ℕ) (i : Instruction) → Sized j k m t → PartSized (instructionStage l c m t i)
+  instruction-size : (l : ℕ) (c : Core) (m t : List ℕ) (i : Instruction) → Sized j k m t
+      → PartSized (instructionStage l c m t i)
   unfolding instructionStage
   instruction-size l c m t (Unprivileged u) h = user-size c m t u h
   instruction-size l c m t (Privileged o) h = either PartSized (privileged c) (system-size l (nextCore c) m t o h) h
@@ -127,15 +145,18 @@ module _ (j k : ℕ) where
   instruction-size l c m t Illegal h = h
 
   -- the word fetched, or the fetch failed
-  fetched-size : (l : ℕ) (c : Core) (m t : List ℕ) (ring : ℕ) (x : Translation) → Sized j k m t → PartSized (fetched l c m t ring x)
+  fetched-size : (l : ℕ) (c : Core) (m t : List ℕ) (ring : ℕ) (x : Translation) → Sized j k m t
+      → PartSized (fetched l c m t ring x)
   unfolding fetched
-  fetched-size l c m t ring x h = either PartSized (passes x) (instruction-size l (afterFetch c ring x) m t (instructionOf c (wordAt m t x)) h) h
+  fetched-size l c m t ring x h =
+      either PartSized (passes x) (instruction-size l (afterFetch c ring x) m t (instructionOf c (wordAt m t x)) h) h
 
   -- the running level
   step-in-size : (l : ℕ) (c : Core) (m t : List ℕ) → Sized j k m t → PartSized (stepIn l c m t)
   unfolding stepIn
   step-in-size l c m t h =
-      fetched-size l c m (marked t (length m) (rightsOf c) (fetchOf c)) _ (translate t (length m) (rightsOf c) (fetchOf c))
+      fetched-size l c m (marked t (length m) (rightsOf c) (fetchOf c))
+      _ (translate t (length m) (rightsOf c) (fetchOf c))
       (marked-size m t (length m) (rightsOf c) (fetchOf c) h)
 
   -- ---- what leaves the level
@@ -145,12 +166,15 @@ module _ (j k : ℕ) where
   block-size x s m t h = tested-size (blockRequest x s) m t (length m) (rightsOf (coreOf s)) h
 
   -- SRB
-  block-stored-size : (s : State) (l : ℕ) (m : List ℕ) (r : Tested) → Sized j k m (r .tables) → TurnSized (blockStored s l m r)
+  block-stored-size : (s : State) (l : ℕ) (m : List ℕ) (r : Tested) → Sized j k m (r .tables)
+      → TurnSized (blockStored s l m r)
   unfolding blockStored
-  block-stored-size s l m r h = either TurnSized (passes (r .fault)) (stored-size (r .places) m (r .tables) (blockWords s l blockOrder) h) h
+  block-stored-size s l m r h =
+      either TurnSized (passes (r .fault)) (stored-size (r .places) m (r .tables) (blockWords s l blockOrder) h) h
 
   -- LRB
-  block-loaded-size : (s : State) (l : ℕ) (m : List ℕ) (r : Tested) → Sized j k m (r .tables) → TurnSized (blockLoaded s l m r)
+  block-loaded-size : (s : State) (l : ℕ) (m : List ℕ) (r : Tested) → Sized j k m (r .tables)
+      → TurnSized (blockLoaded s l m r)
   unfolding blockLoaded
   block-loaded-size s l m r h = either TurnSized (passes (r .fault)) h h
 
@@ -178,4 +202,5 @@ module _ (j k : ℕ) where
   unfolding step
   step-sized s m t h =
       either TurnSized (isStopped s) h
-      (either TurnSized (changeDue s) h (settled-size s (stepIn (s .level) (coreOf s) m t) (step-in-size (s .level) (coreOf s) m t h)))
+      (either TurnSized (changeDue s) h
+      (settled-size s (stepIn (s .level) (coreOf s) m t) (step-in-size (s .level) (coreOf s) m t h)))

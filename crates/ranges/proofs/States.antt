@@ -1,5 +1,6 @@
 -- A state in range, part by part; it is what the types and the test `inRange` say together.
 -- Assumes nothing.
+use Rattle.isa.specs.Machine.{levelCount, registerWords}
 use Prim.Native.Nat.{ℕ, zero, suc, _*_, _/_, _%_, _<_, _≤_}
 use native.Mathlib.Omega.{arith}
 use native.Mathlib.Decide.{decLt, ℕ-discrete}
@@ -9,7 +10,8 @@ use mathlib.Core.List.{List, [], _∷_}
 use lib.ListN.{getD, length, List·getD-eq-default}
 use lib.Dec.{ltb, eqb}
 use borrow.Author.Tests.{ltb-true, eqb-true, lt-ltb, eq-eqb}
-use Rattle.isa.specs.Machine.{Words, Typed, inRange, controlInRange, interruptBits, pcrBits, allPcrBits, flagsFit, controlWords}
+use Rattle.isa.specs.Machine.{Words, Typed, inRange, controlInRange, interruptBits, pcrBits, allPcrBits, flagsFit}
+use Rattle.isa.specs.Machine.{controlWords}
 use Rattle.isa.specs.declared.machine.Control.{Control}
 use Rattle.isa.specs.declared.machine.State.{State}
 use Rattle.isa.proofs.Tests.{and-left, and-right, and-both}
@@ -20,21 +22,27 @@ use Rattle.ranges.proofs.Control.{InterruptFits, PcrFits, ControlFits}
 -- the parts of a state
 pub record StateFits (s : State) : Type 0 where
   pub level : s .level < 16
-  pub regs-length : length (s .regs) ≡ 128
+  pub regs-length : length (s .regs) ≡ registerWords
   pub regs : Each Fits (s .regs)
   pub control : ControlFits (s .control)
-  pub pcr-length : length (s .pcr) ≡ 16
+  pub pcr-length : length (s .pcr) ≡ levelCount
   pub pcr : Each (λ i. PcrFits) (s .pcr)
 
 -- ---- from the tests
 
 -- IID and IIE
 interrupt-bits : (w : ℕ) → interruptBits w ≡ true → InterruptFits w
-interrupt-bits w h = record { even = eqb-true (w % 2) 0 (and-left _ (ltb w 2048) h); low = ltb-true w 2048 (and-right (eqb (w % 2) 0) _ h) }
+interrupt-bits w h = record {
+  even = eqb-true (w % 2) 0 (and-left _ (ltb w 2048) h);
+  low = ltb-true w 2048 (and-right (eqb (w % 2) 0) _ h);
+}
 
 -- a PCR
 pcr-bits : (w : ℕ) → pcrBits w ≡ true → PcrFits w
-pcr-bits w h = record { clear = eqb-true (w / 4 % 32) 0 (and-left _ (ltb w 2048) h); low = ltb-true w 2048 (and-right (eqb (w / 4 % 32) 0) _ h) }
+pcr-bits w h = record {
+  clear = eqb-true (w / 4 % 32) 0 (and-left _ (ltb w 2048) h);
+  low = ltb-true w 2048 (and-right (eqb (w / 4 % 32) 0) _ h);
+}
 
 -- all PCRs
 pcrs-each : (ps : List ℕ) → allPcrBits ps ≡ true → Each (λ i. PcrFits) ps
@@ -45,14 +53,15 @@ pcrs-each (p ∷ ps) h (suc i) = pcrs-each ps (and-right (pcrBits p) (allPcrBits
 -- the STS of each level below n
 flags-below : (n : ℕ) (b : List ℕ) → flagsFit n b ≡ true → (l : ℕ) → l < n → getD b (l * 8) 0 < 256
 flags-below zero b h l k = absurd (omega arith)
-flags-below (suc n) b h l k = go (ℕ-discrete l n) (flags-below n b (and-right (ltb (getD b (n * 8) 0) 256) (flagsFit n b) h) l)
+flags-below (suc n) b h l k =
+    go (ℕ-discrete l n) (flags-below n b (and-right (ltb (getD b (n * 8) 0) 256) (flagsFit n b) h) l)
   where
     go : Dec (l ≡ n) → (l < n → getD b (l * 8) 0 < 256) → getD b (l * 8) 0 < 256
     go (yes e) r = rw e (ltb-true (getD b (n * 8) 0) 256 (and-left (ltb (getD b (n * 8) 0) 256) (flagsFit n b) h))
     go (no e) r = r (omega arith)
 
 -- so each place that is a level's STS
-regs-each : (b : List ℕ) → length b ≡ 128 → Words b → flagsFit 16 b ≡ true → Each Fits b
+regs-each : (b : List ℕ) → length b ≡ registerWords → Words b → flagsFit 16 b ≡ true → Each Fits b
 regs-each b n w h i = record { word = w i; flags = λ e. go e (decLt i 128) }
   where
     go : i % 8 ≡ 0 → Dec (i < 128) → getD b i 0 < 256
@@ -62,7 +71,8 @@ regs-each b n w h i = record { word = w i; flags = λ e. go e (decLt i 128) }
     go e (no k) = rw (List·getD-eq-default b 0 {n = i} (omega arith)) (omega arith)
 
 -- the control words
-control-range : (k : Control) → controlInRange k ≡ true → k .pid < 65536 → k .pie < 65536 → k .pgs < 65536 → ControlFits k
+control-range : (k : Control) → controlInRange k ≡ true → k .pid < 65536 → k .pie < 65536 → k .pgs < 65536
+    → ControlFits k
 control-range k h d e g = record {
   interrupts = ltb-true (k .interrupts) 2 (search (and-left, and-right));
   paging = ltb-true (k .paging) 2 (search (and-left, and-right));
@@ -77,7 +87,12 @@ control-range k h d e g = record {
 
 -- four tests that all pass; the last is long to compute
 four : (a b c d : Bool) → (a && b && c && d) ≡ true → (a ≡ true) × (b ≡ true) × (c ≡ true) × (d ≡ true)
-four a b c d h = (search (and-left, and-right), search (and-left, and-right), search (and-left, and-right), search (and-left, and-right))
+four a b c d h = (
+  search (and-left, and-right),
+  search (and-left, and-right),
+  search (and-left, and-right),
+  search (and-left, and-right),
+)
 
 -- the state
 pub state-fits : (s : State) → Typed s → inRange s ≡ true → StateFits s
@@ -120,7 +135,8 @@ control-test k h =
     (and-both
     (and-both
     (and-both
-    (and-both (and-both (lt-ltb (k .interrupts) 2 (h .interrupts)) (lt-ltb (k .paging) 2 (h .paging))) (lt-ltb (k .stopped) 2 (h .stopped)))
+    (and-both (and-both (lt-ltb (k .interrupts) 2 (h .interrupts)) (lt-ltb (k .paging) 2 (h .paging)))
+    (lt-ltb (k .stopped) 2 (h .stopped)))
     (lt-ltb (k .pvl) 16 (h .pvl)))
     (interrupt-test (k .iid) (h .iid)))
     (interrupt-test (k .iie) (h .iie)))

@@ -11,25 +11,33 @@ use lib.Bits.{bitAnd}
 use Rattle.isa.specs.Machine.{Words, reg, coreOf}
 use Rattle.isa.specs.Instructions.{indirectRequest, request, complete, Completed}
 use Rattle.isa.specs.Pages.{translate, marked, testAll, Tested, passes, wordAt, wordsAt, rightsOf}
-use Rattle.isa.specs.Step.{Part, part, failed, trapped, finishedCore, finished, operandsTested, operands, indirectTested, userStage, physicalAddress, examined, deposited, systemStage, privileged, instructionStage, instructionOf, afterFetch, fetched, fetchOf, stepIn, settled, isStopped, changeDue, levelChanged, step}
+use Rattle.isa.specs.Step.{Part, part, failed, trapped, finishedCore, finished, operandsTested, operands}
+use Rattle.isa.specs.Step.{indirectTested, userStage, physicalAddress, examined, deposited, systemStage, privileged}
+use Rattle.isa.specs.Step.{instructionStage, instructionOf, afterFetch, fetched, fetchOf, stepIn, settled, isStopped}
+use Rattle.isa.specs.Step.{changeDue, levelChanged, step}
 use Rattle.isa.specs.declared.machine.Core.{Core}
 use Rattle.isa.specs.declared.machine.State.{State}
 use Rattle.isa.specs.declared.machine.Register.the-variants.{T}
 use Rattle.isa.specs.declared.instruction.User.{User}
 use Rattle.isa.specs.declared.instruction.System.{System}
-use Rattle.isa.specs.declared.instruction.System.the-variants.{Control as ControlOf, TraPgc, TrrPcr, Irr, Irw, Srb, Lrb, Exam, Depo, Iox, Ioxt, Ident}
+use Rattle.isa.specs.declared.instruction.System.the-variants.{Control as ControlOf, TraPgc, TrrPcr, Irr, Irw, Srb}
+use Rattle.isa.specs.declared.instruction.System.the-variants.{Lrb, Exam, Depo, Iox, Ioxt, Ident}
 use Rattle.isa.specs.declared.instruction.Instruction.{Instruction}
 use Rattle.isa.specs.declared.instruction.Instruction.the-variants.{Unprivileged, Privileged, Execute, Monitor, Illegal}
 use Rattle.isa.specs.declared.access.Translation.{Translation}
-use Rattle.isa.specs.declared.access.Translation.the-variants.{NoAccess, Load, Store, LoadTable, StoreTable, Protection, PageFault, OutOfRange}
+use Rattle.isa.specs.declared.access.Translation.the-variants.{NoAccess, Load, Store, LoadTable, StoreTable}
+use Rattle.isa.specs.declared.access.Translation.the-variants.{Protection, PageFault, OutOfRange}
 use Rattle.isa.specs.declared.answer.Far.{Far}
-use Rattle.isa.specs.declared.answer.Far.the-variants.{ReadRegister, WriteRegister, ReadPcr, WritePcr, StoreBlock, LoadBlock}
+use Rattle.isa.specs.declared.answer.Far.the-variants.{ReadRegister, WriteRegister, ReadPcr, WritePcr, StoreBlock}
+use Rattle.isa.specs.declared.answer.Far.the-variants.{LoadBlock}
 use Rattle.isa.proofs.Tests.{either, decided}
 use Rattle.isa.proofs.Signed.{bits-below}
 use Rattle.ranges.proofs.Files.{reg-word, with-word}
 use Rattle.ranges.proofs.Instructions.{Completes, completes}
-use Rattle.ranges.proofs.Control.{CoreFits, file-fits, next-core-fits, gives-fits, lowered-fits, levels-fit, highest-below, controlled-fits}
-use Rattle.ranges.proofs.Pages.{FaultFits, LentFits, rights-fit, translated-fits, faulted-fits, marked-fits, tested-fits, tested-fault, stored-fits, read-words}
+use Rattle.ranges.proofs.Control.{CoreFits, file-fits, next-core-fits, gives-fits, lowered-fits, levels-fit}
+use Rattle.ranges.proofs.Control.{highest-below, controlled-fits}
+use Rattle.ranges.proofs.Pages.{FaultFits, LentFits, rights-fit, translated-fits, faulted-fits, marked-fits}
+use Rattle.ranges.proofs.Pages.{tested-fits, tested-fault, stored-fits, read-words}
 use Rattle.ranges.proofs.Places.{set-words}
 use Rattle.ranges.proofs.States.{StateFits}
 use Rattle.ranges.proofs.Packing.{FarFits, TurnFits, core-fits, with-core-fits, far-fits}
@@ -48,7 +56,8 @@ failed-fits : {c : Core} → CoreFits c → (x : Translation) (m t : List ℕ)
 failed-fits h x m t e f k = record { core = faulted-fits x e f h; far = tt; lent = k }
 
 -- an interrupt that is not by an access
-trapped-fits : (n : ℕ) {c : Core} → 0 < n → n < 11 → CoreFits c → (m t : List ℕ) → LentFits m t → PartFits (trapped n c m t)
+trapped-fits : (n : ℕ) {c : Core} → 0 < n → n < 11 → CoreFits c → (m t : List ℕ) → LentFits m t
+    → PartFits (trapped n c m t)
 trapped-fits n a b h m t k = record { core = gives-fits n a b h; far = tt; lent = k }
 
 -- ---- an unprivileged instruction
@@ -56,13 +65,15 @@ trapped-fits n a b h m t k = record { core = gives-fits n a b h; far = tt; lent 
 -- the core with the registers that it completed with, and RDIV's error
 finished-core-fits : {c : Core} → CoreFits c → (d : Completed) → Completes d → CoreFits (finishedCore c d)
 finished-core-fits h d q =
-    either CoreFits (d .error) (gives-fits 5 (omega arith) (omega arith) (file-fits h (q .file))) (file-fits h (q .file))
+    either CoreFits (d .error) (gives-fits 5 (omega arith) (omega arith) (file-fits h (q .file)))
+    (file-fits h (q .file))
 
 -- .. and its words stored
 finished-fits : {c : Core} → CoreFits c → (m t : List ℕ) (xs : List Translation) (d : Completed)
     → LentFits m t → Completes d → PartFits (finished c m t xs d)
 unfolding finished
-finished-fits h m t xs d k q = record { core = finished-core-fits h d q; far = tt; lent = stored-fits xs m t (d .stores) k (q .stores) }
+finished-fits h m t xs d k q =
+    record { core = finished-core-fits h d q; far = tt; lent = stored-fits xs m t (d .stores) k (q .stores) }
 
 -- its accesses tested
 operands-tested-fit : {c : Core} → CoreFits c → (m : List ℕ) (u : User) (i : ℕ) (r : Tested)
@@ -71,7 +82,8 @@ unfolding operandsTested
 operands-tested-fit {c} h m u i r n k f =
     let ws : List ℕ = wordsAt m (r .tables) (r .places) in
     decided PartFits (passes (r .fault))
-    (λ e. finished-fits h m (r .tables) (r .places) (complete u (c .file) i ws) k (completes u i ws (h .file) n (read-words k (r .places))))
+    (λ e. finished-fits h m (r .tables) (r .places) (complete u (c .file) i ws) k
+    (completes u i ws (h .file) n (read-words k (r .places))))
     (λ e. failed-fits (next-core-fits h) (r .fault) m (r .tables) e f k)
 
 -- its accesses asked for
@@ -125,7 +137,8 @@ left-fits : {c : Core} → CoreFits c → (x : Far) (m t : List ℕ) → FarFits
 left-fits h x m t f k = record { core = h; far = f; lent = k }
 
 -- each of them
-system-fits : (l : ℕ) {c : Core} → l < 16 → CoreFits c → (m t : List ℕ) (o : System) → LentFits m t → PartFits (systemStage l c m t o)
+system-fits : (l : ℕ) {c : Core} → l < 16 → CoreFits c → (m t : List ℕ) (o : System) → LentFits m t
+    → PartFits (systemStage l c m t o)
 system-fits l a h m t (ControlOf o) k = record { core = controlled-fits l a h o; far = tt; lent = k }
 system-fits l a h m t TraPgc k = left-fits h ReadPcr m t tt k
 system-fits l a h m t TrrPcr k = left-fits h WritePcr m t tt k
@@ -178,7 +191,8 @@ fetched-fits l {c} a h m t ring x f k =
 pub step-in-fits : (l : ℕ) {c : Core} → l < 16 → CoreFits c → (m t : List ℕ) → LentFits m t → PartFits (stepIn l c m t)
 unfolding stepIn
 step-in-fits l {c} a h m t k =
-    fetched-fits l a h m (marked t (length m) (rightsOf c) (fetchOf c)) _ (translate t (length m) (rightsOf c) (fetchOf c))
+    fetched-fits l a h m (marked t (length m) (rightsOf c) (fetchOf c))
+    _ (translate t (length m) (rightsOf c) (fetchOf c))
     (translated-fits t (length m) (rights-fit c) (fetchOf c)) (marked-fits m t (length m) (rightsOf c) (fetchOf c) k)
 
 -- ---- one step
@@ -186,7 +200,8 @@ step-in-fits l {c} a h m t k =
 -- the running level's words put back, and what is left done
 settled-fits : {s : State} → StateFits s → (r : Part) → PartFits r → TurnFits (settled s r)
 unfolding settled
-settled-fits h r k = far-fits (with-core-fits h (k .core)) (r .near .gave) (r .memory) (r .tables) (r .near .far) (k .far) (k .lent)
+settled-fits h r k =
+    far-fits (with-core-fits h (k .core)) (r .near .gave) (r .memory) (r .tables) (r .near .far) (k .far) (k .lent)
 
 -- a change of level
 level-changed-fits : {s : State} → StateFits s → StateFits (levelChanged s)
@@ -195,7 +210,9 @@ level-changed-fits {s} h = record {
   level = highest-below 15 (bitAnd (s .control .pid) (s .control .pie));
   regs-length = h .regs-length;
   regs = h .regs;
-  control = levels-fit (h .control) (s .control .pid) (s .control .pie) (s .level) (h .control .pid) (h .control .pie) (h .level);
+  control =
+      levels-fit (h .control) (s .control .pid) (s .control .pie) (s .level) (h .control .pid) (h .control .pie)
+      (h .level);
   pcr-length = h .pcr-length;
   pcr = h .pcr;
 }

@@ -1,5 +1,6 @@
--- What a step and a run keep of a machine with memory m and page tables t: the types, the ranges of document 01, the size of the
--- tables, and that each word of both is a word.
+-- What a step and a run keep of a machine with memory m and page tables t: the types, the ranges of document 01, the
+-- size of the tables, and that each word of both is a word.
+use Rattle.isa.specs.Machine.{tableWords}
 use Prim.Native.Nat.{ℕ}
 use mathlib.Core.Path.{_≡_}
 use mathlib.Core.Bool.{true}
@@ -13,7 +14,7 @@ pub record Sound (s : State) (m t : List ℕ) : Type 0 where
   pub range : inRange s ≡ true
   pub memory : Words m
   pub tables : Words t
-  pub size : length t ≡ 256
+  pub size : length t ≡ tableWords
 
 -- memory of j words and page tables of k
 pub record Sized (j k : ℕ) (m t : List ℕ) : Type 0 where

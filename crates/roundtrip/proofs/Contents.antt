@@ -1,5 +1,6 @@
 -- What load finds in an image that write gave: four full entries, and the bodies one after the other.
 -- Assumes nothing.
+use Rattle.isa.specs.Machine.{levelCount, registerWords, tableWords}
 use Prim.Native.Nat.{ℕ, _+_, _≤_}
 use mathlib.Core.Path.{_≡_, refl, sym, ap, _∙_}
 use mathlib.Core.List.{List, [], _∷_, _++_, append-nil}
@@ -45,7 +46,8 @@ module _ (s : State) (m t : List ℕ) where
   unfolding imageOf
   bodies-all = refl
 
-  module _ (hr : length (s .regs) ≡ 128) (hp : length (s .pcr) ≡ 16) (ht : length t ≡ 256) where
+  module _ (hr : length (s .regs) ≡ registerWords) (hp : length (s .pcr) ≡ levelCount)
+      (ht : length t ≡ tableWords) where
     control-length : length (controlWords s) ≡ 26
     control-length = omega (arith, hp)
 
@@ -60,7 +62,8 @@ module _ (s : State) (m t : List ℕ) where
         e = omega (arith, hr, control-length, ht)
 
     -- what the entries of the four leave of a target of each kind
-    by-four : (k size : ℕ) → loadedWords k size (imageOf s m t) ≡ placed k (four (length m)) (m ++ afterMemory) (replicate size 0)
+    by-four : (k size : ℕ) → loadedWords k size (imageOf s m t)
+        ≡ placed k (four (length m)) (m ++ afterMemory) (replicate size 0)
     unfolding loadedWords
     by-four k size =
         ap (λ (es : List Entry). placed k es (bodies (imageOf s m t)) (replicate size 0)) contents-four
@@ -76,7 +79,9 @@ module _ (s : State) (m t : List ℕ) where
     dropped-control = ap (drop 26) dropped-registers ∙ drop-at (controlWords s) t 26 control-length
 
     pub loaded-memory : loadedWords 1 (length m) (imageOf s m t) ≡ m
-    loaded-memory = by-four 1 (length m) ∙ fill (length m) (replicate (length m) 0) m afterMemory (length-replicate (length m) 0) refl
+    loaded-memory =
+        by-four 1 (length m)
+        ∙ fill (length m) (replicate (length m) 0) m afterMemory (length-replicate (length m) 0) refl
 
     pub loaded-registers : loadedWords 2 128 (imageOf s m t) ≡ s .regs
     loaded-registers =

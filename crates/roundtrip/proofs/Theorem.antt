@@ -1,5 +1,6 @@
 -- Write, then load: the same machine. And the order of load's refusals.
 -- Assumes nothing.
+use Rattle.isa.specs.Machine.{tableWords}
 use Prim.Native.Nat.{ℕ, _+_, _≤_}
 use mathlib.Core.Path.{_≡_, refl, sym, ap, _∙_}
 use mathlib.Core.Bool.{true}
@@ -10,14 +11,16 @@ use lib.Seq.{take-at}
 use lib.Dec.{eqb}
 use borrow.Author.Tests.{le-ltb, lt-ltb, le-leb, eq-eqb, eqb-true}
 use Rattle.isa.specs.Machine.{stateOf, sizesFit, memorySize, inRange}
-use Rattle.isa.specs.Images.{contentsFit, contents, bodies, entriesAnswer, meets, namedWords, loadedState, loadedWords, contentsWords, imageOf, imageSize}
+use Rattle.isa.specs.Images.{contentsFit, contents, bodies, entriesAnswer, meets, namedWords, loadedState}
+use Rattle.isa.specs.Images.{loadedWords, contentsWords, imageOf, imageSize}
 use Rattle.isa.specs.Answers.{LoadCall, loadCall, loadCallBy, loadAnswer, stateAnswer, writeAnswer, writtenOutput}
 use Rattle.isa.specs.declared.machine.State.{State}
 use Rattle.isa.specs.declared.answer.Answer.{Answer}
 use Rattle.isa.specs.declared.answer.Answer.the-variants.{Done, Refused}
 use Rattle.isa.proofs.Tests.{and-both, and-right}
 use Rattle.roundtrip.specs.Statement.{Machine, Loads, RoundTrip, LoadOrder, Either, machine, refusal}
-use Rattle.roundtrip.proofs.Contents.{four, afterMemory, entry-count, contents-four, bodies-all, bodies-length, loaded-memory, loaded-registers, loaded-control, loaded-tables}
+use Rattle.roundtrip.proofs.Contents.{four, afterMemory, entry-count, contents-four, bodies-all, bodies-length}
+use Rattle.roundtrip.proofs.Contents.{loaded-memory, loaded-registers, loaded-control, loaded-tables}
 
 -- ---- the order of load's refusals
 
@@ -51,7 +54,7 @@ four-pass words = rw (le-ltb words (0 + words) q)
     q = omega arith
 
 module _ (s : State) (m t : List ℕ) (h : Machine s m t) where
-  tables-length : length t ≡ 256
+  tables-length : length t ≡ tableWords
   unfolding sizesFit
   tables-length = eqb-true (length t) 256 (and-right (memorySize (length m)) (eqb (length t) 256) (h .sizes))
 
@@ -71,15 +74,18 @@ module _ (s : State) (m t : List ℕ) (h : Machine s m t) where
 
   loaded-state : loadedState (imageOf s m t) ≡ s
   loaded-state =
-      ap (λ (rs : List ℕ). stateOf rs (loadedWords 3 26 (imageOf s m t))) (loaded-registers s m t (h .typed .regs-length) (h .typed .pcr-length) tables-length)
-      ∙ ap (λ (cs : List ℕ). stateOf (s .regs) cs) (loaded-control s m t (h .typed .regs-length) (h .typed .pcr-length) tables-length)
+      ap (λ (rs : List ℕ). stateOf rs (loadedWords 3 26 (imageOf s m t)))
+      (loaded-registers s m t (h .typed .regs-length) (h .typed .pcr-length) tables-length)
+      ∙ ap (λ (cs : List ℕ). stateOf (s .regs) cs)
+      (loaded-control s m t (h .typed .regs-length) (h .typed .pcr-length) tables-length)
 
   named-all : eqb (namedWords (contents (imageOf s m t))) (length (bodies (imageOf s m t))) ≡ true
   named-all =
       eq-eqb _ _
       (ap namedWords (contents-four s m t)
       ∙ q
-      ∙ sym (ap length (bodies-all s m t) ∙ bodies-length s m t (h .typed .regs-length) (h .typed .pcr-length) tables-length))
+      ∙ sym (ap length (bodies-all s m t)
+      ∙ bodies-length s m t (h .typed .regs-length) (h .typed .pcr-length) tables-length))
     where
       q : namedWords (four (length m)) ≡ length m + 410
       q = omega arith
@@ -93,7 +99,8 @@ module _ (s : State) (m t : List ℕ) (h : Machine s m t) where
     image-accepted : loadAnswer (imageOf s m t) m₀ t₀ ≡ Done
     image-accepted =
         load-order (imageOf s m t) m₀ t₀ .loaded sizes-same image-fits
-        (ap (λ (n : ℕ). entriesAnswer n [] (contents (imageOf s m t))) hm ∙ ap (entriesAnswer (length m) []) (contents-four s m t) ∙ four-pass (length m))
+        (ap (λ (n : ℕ). entriesAnswer n [] (contents (imageOf s m t))) hm
+        ∙ ap (entriesAnswer (length m) []) (contents-four s m t) ∙ four-pass (length m))
         named-all
         (ap inRange loaded-state ∙ h .range)
 
@@ -102,20 +109,31 @@ module _ (s : State) (m t : List ℕ) (h : Machine s m t) where
   image-loads = record { loads = λ s₀ m₀ t₀ hm ht. rw (image-accepted m₀ t₀ hm ht) (whole m₀ hm) }
     where
       whole : (m₀ : List ℕ) → length m₀ ≡ length m
-          → _≡_ {A = LoadCall} (record { answer = Done; state = loadedState (imageOf s m t); memory = loadedWords 1 (length m₀) (imageOf s m t); tables = loadedWords 4 256 (imageOf s m t) })
+          → _≡_ {A = LoadCall} (record {
+            answer = Done;
+            state = loadedState (imageOf s m t);
+            memory = loadedWords 1 (length m₀) (imageOf s m t);
+            tables = loadedWords 4 256 (imageOf s m t);
+          })
           (record { answer = Done; state = s; memory = m; tables = t })
       whole m₀ hm =
-          rw
-          (loaded-state, hm, loaded-memory s m t (h .typed .regs-length) (h .typed .pcr-length) tables-length, loaded-tables s m t (h .typed .regs-length) (h .typed .pcr-length) tables-length)
+          rw (
+            loaded-state,
+            hm,
+            loaded-memory s m t (h .typed .regs-length) (h .typed .pcr-length) tables-length,
+            loaded-tables s m t (h .typed .regs-length) (h .typed .pcr-length) tables-length,
+          )
 
   -- what write leaves in an output that is long enough
   write-done : (out : List ℕ) → imageSize m ≤ length out → writeAnswer s m t out ≡ Done
   unfolding writeAnswer stateAnswer
   write-done out l = rw (h .sizes, h .range, le-ltb (length out) (imageSize m) l)
 
-  written-image : (out : List ℕ) → imageSize m ≤ length out → take (imageSize m) (writtenOutput s m t out) ≡ imageOf s m t
+  pub written-image : (out : List ℕ) → imageSize m ≤ length out
+      → take (imageSize m) (writtenOutput s m t out) ≡ imageOf s m t
   unfolding writtenOutput
-  written-image out l = rw (write-done out l) (take-at (imageOf s m t) (drop (imageSize m) out) (imageSize m) image-length)
+  written-image out l =
+      rw (write-done out l) (take-at (imageOf s m t) (drop (imageSize m) out) (imageSize m) image-length)
 
   -- THE THEOREM
   pub round-trip : RoundTrip s m t

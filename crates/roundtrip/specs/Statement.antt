@@ -1,11 +1,13 @@
--- Demand 2: "Writing an image and loading it into as much memory gives the same machine." And what load answers, in which order.
+-- Demand 2: "Writing an image and loading it into as much memory gives the same machine." And what load answers, in
+-- which order.
 use Prim.Native.Nat.{ℕ, _≤_}
 use mathlib.Core.Path.{_≡_}
 use mathlib.Core.Bool.{true, false}
 use mathlib.Core.List.{List, []}
 use lib.ListN.{take, length}
 use Rattle.isa.specs.Machine.{Typed, inRange, sizesFit}
-use Rattle.isa.specs.Images.{imageOf, imageSize, contents, bodies, contentsFit, entriesAnswer, namedWords, loadedState, loadedWords}
+use Rattle.isa.specs.Images.{imageOf, imageSize, contents, bodies, contentsFit, entriesAnswer, namedWords}
+use Rattle.isa.specs.Images.{loadedState, loadedWords}
 use Rattle.isa.specs.Answers.{LoadCall, loadCall, loadAnswer, writtenOutput}
 use Rattle.isa.specs.declared.machine.State.{State}
 use Rattle.isa.specs.declared.answer.Refusal.{Refusal}
@@ -29,21 +31,29 @@ pub record RoundTrip (s : State) (m t : List ℕ) : Type 0 where
   pub image : Loads s m t (imageOf s m t)
   pub output : (out : List ℕ) → imageSize m ≤ length out → Loads s m t (take (imageSize m) (writtenOutput s m t out))
 
--- "Load: 4, contents short or over 32 entries; for each entry 5, 6, 7; 8, bodies other than exactly the rest; 2": each refusal where
--- those before it do not hold, 1 before all
+-- "Load: 4, contents short or over 32 entries; for each entry 5 .. 6 .. 7 .. 8, bodies other than exactly the rest; 2":
+-- each refusal where those before it do not hold, 1 before all
 pub record LoadOrder (i m t : List ℕ) : Type 0 where
   pub sizes : sizesFit m t ≡ false → loadAnswer i m t ≡ Refused Sizes
   pub contents-short : sizesFit m t ≡ true → contentsFit i ≡ false → loadAnswer i m t ≡ Refused Contents
-  pub entry : (r : Refusal) → sizesFit m t ≡ true → contentsFit i ≡ true → entriesAnswer (length m) [] (contents i) ≡ Refused r
+  pub entry : (r : Refusal) → sizesFit m t ≡ true → contentsFit i ≡ true
+      → entriesAnswer (length m) [] (contents i) ≡ Refused r
       → loadAnswer i m t ≡ Refused r
   pub bodies-differ : sizesFit m t ≡ true → contentsFit i ≡ true → entriesAnswer (length m) [] (contents i) ≡ Done
       → eqb (namedWords (contents i)) (length (bodies i)) ≡ false → loadAnswer i m t ≡ Refused Bodies
   pub state : sizesFit m t ≡ true → contentsFit i ≡ true → entriesAnswer (length m) [] (contents i) ≡ Done
-      → eqb (namedWords (contents i)) (length (bodies i)) ≡ true → inRange (loadedState i) ≡ false → loadAnswer i m t ≡ Refused StateRange
+      → eqb (namedWords (contents i)) (length (bodies i)) ≡ true → inRange (loadedState i) ≡ false
+      → loadAnswer i m t ≡ Refused StateRange
   pub loaded : sizesFit m t ≡ true → contentsFit i ≡ true → entriesAnswer (length m) [] (contents i) ≡ Done
-      → eqb (namedWords (contents i)) (length (bodies i)) ≡ true → inRange (loadedState i) ≡ true → loadAnswer i m t ≡ Done
+      → eqb (namedWords (contents i)) (length (bodies i)) ≡ true → inRange (loadedState i) ≡ true
+      → loadAnswer i m t ≡ Done
 
 -- load answers exactly one of a machine or a refusal that leaves everything as it came
 pub data Either (s : State) (i m t : List ℕ) (r : LoadCall) : Type 0 where
-  machine : r ≡ record { answer = Done; state = loadedState i; memory = loadedWords 1 (length m) i; tables = loadedWords 4 256 i } → Either s i m t r
+  machine : r ≡ record {
+    answer = Done;
+    state = loadedState i;
+    memory = loadedWords 1 (length m) i;
+    tables = loadedWords 4 256 i;
+  } → Either s i m t r
   refusal : (x : Refusal) → r ≡ record { answer = Refused x; state = s; memory = m; tables = t } → Either s i m t r

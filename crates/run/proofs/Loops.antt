@@ -17,8 +17,8 @@ use Rattle.isa.specs.declared.machine.State.{State}
 use Rattle.levels.specs.Changes.{dueAt}
 use Rattle.levels.specs.declared.change.Advanced.{Advanced}
 use Rattle.levels.proofs.Changes.{due-pack}
-use Rattle.burst.specs.Bursts.{goesOn}
-use Rattle.advance.specs.Advances.{Advance}
+use Rattle.run_level.specs.Bursts.{goesOn}
+use Rattle.run_slice.specs.Advances.{Advance}
 use Rattle.run.specs.Runs.{reasonAtRest}
 use Rattle.run.specs.declared.machine.Ran.{Ran}
 
@@ -37,7 +37,8 @@ Ended first n s m t w k r =
 -- what run_in answers
 abbrev pub Answered : ℕ → Bool → State → List ℕ → List ℕ → List ℕ → List ℕ → List ℕ → List ℕ → Ran → Type 0
 Answered n first s m t regs pcrs m' t' r =
-    (r .level < 16) × Ended first n s m t (r .reason) (r .steps) (turn (pack (r .level) (r .core) regs pcrs) (r .gave) m' t')
+    (r .level < 16) × Ended first n s m t (r .reason) (r .steps)
+    (turn (pack (r .level) (r .core) regs pcrs) (r .gave) m' t')
 
 -- a run to the first interrupt is not a run through
 not-through : (first y : Bool) → (first && y) ≡ true → first ≡ false → ⊥
@@ -48,15 +49,21 @@ unfolding step
 stopped-step s m t h = rw h
 
 -- before a step
-level-run : (first : Bool) (n k : ℕ) (s : State) (m t : List ℕ) → isStopped s ≡ false → (first && dueAt (s .level) (s .control)) ≡ true
+level-run : (first : Bool) (n k : ℕ) (s : State) (m t : List ℕ) → isStopped s ≡ false
+    → (first && dueAt (s .level) (s .control)) ≡ true
     → runFrom first n k s m t ≡ ended Level k s m t
 level-run first zero k s m t x d = rw (x, ap (first &&_) (due-pack s) ∙ d)
 level-run first (suc n) k s m t x d = rw (x, ap (first &&_) (due-pack s) ∙ d)
 
-rest-run : (first : Bool) (k : ℕ) (s : State) (m t : List ℕ) → runFrom first 0 k s m t ≡ ended (reasonAtRest first (s .level) (s .control)) k s m t
-rest-run first k s m t = ap (λ (b : Bool). cond (isStopped s) (ended Stopped k s m t) (cond b (ended Level k s m t) (ended Spent k s m t))) (ap (first &&_) (due-pack s)) ∙ go (isStopped s) (first && dueAt (s .level) (s .control))
+rest-run : (first : Bool) (k : ℕ) (s : State) (m t : List ℕ)
+    → runFrom first 0 k s m t ≡ ended (reasonAtRest first (s .level) (s .control)) k s m t
+rest-run first k s m t =
+    ap (λ (b : Bool). cond (isStopped s) (ended Stopped k s m t) (cond b (ended Level k s m t) (ended Spent k s m t)))
+    (ap (first &&_) (due-pack s))
+    ∙ go (isStopped s) (first && dueAt (s .level) (s .control))
   where
-    go : (x y : Bool) → cond x (ended Stopped k s m t) (cond y (ended Level k s m t) (ended Spent k s m t)) ≡ ended (cond x Stopped (cond y Level Spent)) k s m t
+    go : (x y : Bool) → cond x (ended Stopped k s m t) (cond y (ended Level k s m t) (ended Spent k s m t))
+        ≡ ended (cond x Stopped (cond y Level Spent)) k s m t
     go true y = refl
     go false true = refl
     go false false = refl
@@ -78,7 +85,8 @@ module _ {first : Bool} {n : ℕ} {s : State} {m t : List ℕ} {k : ℕ} {r : Tu
         e ∙ stopped-step s m t (ap (λ (y : Turn). isStopped (y .state)) (sym e) ∙ x),
   )
 
-  pub ends-level : isStopped (r .state) ≡ false → (first && dueAt (r .state .level) (r .state .control)) ≡ true → Ended first n s m t Level k r
+  pub ends-level : isStopped (r .state) ≡ false → (first && dueAt (r .state .level) (r .state .control)) ≡ true
+      → Ended first n s m t Level k r
   ends-level x d = (
     sym (level-run first (n - k) k (r .state) (r .memory) (r .tables) x d) ∙ sym (g .total),
     λ o f. absurd (not-through first (dueAt (r .state .level) (r .state .control)) d f),
@@ -87,7 +95,9 @@ module _ {first : Bool} {n : ℕ} {s : State} {m t : List ℕ} {k : ℕ} {r : Tu
   pub ends-at-rest : n ≤ k → Ended first n s m t (reasonAtRest first (r .state .level) (r .state .control)) k r
   ends-at-rest h =
       let e : n - k ≡ 0 = omega (arith, h, g .most) in (
-        sym (rest-run first k (r .state) (r .memory) (r .tables)) ∙ ap (λ (x : ℕ). runFrom first x k (r .state) (r .memory) (r .tables)) (sym e) ∙ sym (g .total),
+        sym (rest-run first k (r .state) (r .memory) (r .tables))
+            ∙ ap (λ (x : ℕ). runFrom first x k (r .state) (r .memory) (r .tables)) (sym e)
+            ∙ sym (g .total),
         λ o f. g .one (omega (arith, h, g .most, o)),
       )
 

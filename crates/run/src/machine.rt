@@ -1,4 +1,5 @@
 // The loop, over the running level's words and those of all levels.
+ghost use Rattle.isa.specs.Machine.{levelCount, registerWords, tableWords};
 ghost use mathlib.Core.Path.{_≡_};
 ghost use mathlib.Core.Bool.{false, not, _&&_};
 ghost use Prim.Native.Nat.{_<_};
@@ -9,11 +10,11 @@ ghost use Rattle.isa.specs.Run.{runFrom};
 ghost use Rattle.isa.specs.Step.{step, turn};
 ghost use Rattle.levels.specs.Changes.{dueAt};
 ghost use Rattle.run.specs.Runs.{runOf, reasonAtRest};
-use advance::advance;
 use isa::answer::Reason;
 use isa::machine::Control;
 use isa::machine::Core;
 use levels::change::change_due;
+use run_slice::advance;
 
 // The running level, its words, the steps taken, the interrupt that the last of them gave, or 0, and why the run ended.
 pub struct Ran {
@@ -69,8 +70,8 @@ fn at_rest(first: bool, level: u16, c: Core) -> Reason
     Reason::Spent
 }
 
-// Before each step: stopped, then (to the first interrupt only) a level due, then spent; after it an interrupt. A run of one step
-// serves the step, too.
+// Before each step: stopped, then (to the first interrupt only) a level due, then spent; after it an interrupt. A run
+// of one step serves the step, too.
 pub fn run_in(
     start: u16,
     c: Core,
@@ -82,11 +83,16 @@ pub fn run_in(
     first: bool,
 ) -> Ran
     requires { ⌜ start < 16 ⌝ }
-    requires { ⌜ (length (now regs) ≡ 128) × (length (now pcrs) ≡ 16) ⌝ }
-    requires { ⌜ length (now tables) ≡ 256 ⌝ }
+    requires { ⌜ (length (now regs) ≡ registerWords) × (length (now pcrs) ≡ levelCount) ⌝ }
+    requires { ⌜ length (now tables) ≡ tableWords ⌝ }
     ensures { λ r. ⌜ r .level < 16 ⌝ }
-    ensures { λ r. ⌜ runOf r (now (regs .exit)) (now (pcrs .exit)) (now (mem .exit)) (now (tables .exit)) ≡ runFrom first n 0 (pack start c (now (regs .entry)) (now (pcrs .entry))) (now (mem .entry)) (now (tables .entry)) ⌝ }
-    ensures { λ r. ⌜ (n ≡ 1 → first ≡ false → turn (pack (r .level) (r .core) (now (regs .exit)) (now (pcrs .exit))) (r .gave) (now (mem .exit)) (now (tables .exit)) ≡ step (pack start c (now (regs .entry)) (now (pcrs .entry))) (now (mem .entry)) (now (tables .entry))) ⌝ }
+    ensures { λ r. ⌜ runOf r (now (regs .exit)) (now (pcrs .exit)) (now (mem .exit)) (now (tables .exit))
+        ≡ runFrom first n 0 (pack start c (now (regs .entry)) (now (pcrs .entry))) (now (mem .entry))
+        (now (tables .entry)) ⌝ }
+    ensures { λ r. ⌜ (n ≡ 1 → first ≡ false
+        → turn (pack (r .level) (r .core) (now (regs .exit)) (now (pcrs .exit))) (r .gave) (now (mem .exit))
+        (now (tables .exit)) ≡ step (pack start c (now (regs .entry)) (now (pcrs .entry))) (now (mem .entry))
+        (now (tables .entry))) ⌝ }
 {
     let mut level = start;
     let mut core = c;

@@ -1,7 +1,7 @@
-// Reads an image from standard input, runs it and prints how that ended, as document 01 has it. One byte more than an image may have
-// is read, so that a longer input is seen to be longer.
-use turning::printing::text_of;
-use turning::turn;
+// Reads an image from standard input, runs it and prints how that ended, as document 01 has it. One byte more than an
+// image may have is read, so that a longer input is seen to be longer.
+use turn_text::printing::text_of;
+use turn_text::turn;
 
 fn main() {
     let mut input = [0u8; 65537];

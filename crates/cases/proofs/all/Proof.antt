@@ -8,7 +8,8 @@ use Rattle.cases.proofs.all.Statement.{statement}
 use Rattle.cases.proofs.all.Tie as tie
 
 abbrev Inv-loop : tie.InvT-loop
-Inv-loop words count mem₀ tables₀ out₀ at₀ turns₀ mem tables out at turns = (length mem ≡ length mem₀) × ((length tables ≡ length tables₀) × (length out ≡ length out₀))
+Inv-loop words count mem₀ tables₀ out₀ at₀ turns₀ mem tables out at turns =
+    (length mem ≡ length mem₀) × ((length tables ≡ length tables₀) × (length out ≡ length out₀))
 
 abbrev μ-loop : tie.MeasureT-loop
 μ-loop words count mem₀ tables₀ out₀ at₀ turns₀ mem tables out at turns = 100000 - turns

@@ -1,204 +1,164 @@
--- Each range of the top ten bits is a row of the table.
+-- Each arm is a row of the table, found by its first code: the single numbers, then the ranges, then what `_` leaves.
 -- Assumes nothing.
+use Prim.Native.Nat.{ℕ}
 use native.Mathlib.Omega.{arith}
-use mathlib.Core.Path.{refl}
-use Rattle.isa.specs.Decode.{decode}
-use Rattle.decode.proofs.Laws.{needs, row, beyond, first-rows}
+use mathlib.Core.Path.{refl, ap, _∙_}
+use mathlib.Core.List.{List, [], _∷_}
+use borrow.Author.Needs.{needs}
+use Rattle.isa.specs.declared.instruction.Instruction.the-variants.{Execute}
+use Rattle.decode.proofs.Laws.{row-from, no-row}
 use Rattle.decode.proofs.decode.Statement.{statement}
 use Rattle.decode.proofs.decode.Tie as tie
 
-operation-of-requires : tie.Need-operation-of-requires
-operation-of-requires c κs = search needs
-
-memory-requires : tie.Need-memory-requires
-memory-requires c κs = search needs
-
-memory-requires-2 : tie.Need-memory-requires-2
-memory-requires-2 c κs = search needs
-
-memory-requires-3 : tie.Need-memory-requires-3
-memory-requires-3 c κs = search needs
-
-jump-requires : tie.Need-jump-requires
-jump-requires c κs = search needs
-
-memory-requires-4 : tie.Need-memory-requires-4
-memory-requires-4 c κs = search needs
-
-skip-class-requires : tie.Need-skip-class-requires
-skip-class-requires c κs = search needs
-
-register-class-requires : tie.Need-register-class-requires
-register-class-requires c κs = search needs
-
-transfer-class-requires : tie.Need-transfer-class-requires
-transfer-class-requires c κs = search needs
-
-wait-requires : tie.Need-wait-requires
-wait-requires c κs = search needs
-
-srb-of-requires : tie.Need-srb-of-requires
-srb-of-requires c κs = search needs
-
-lrb-of-requires : tie.Need-lrb-of-requires
-lrb-of-requires c κs = search needs
-
-displacement-requires : tie.Need-displacement-requires
-displacement-requires c κs = search needs
-
-irw-requires : tie.Need-irw-requires
-irw-requires c κs = search needs
-
-irr-requires : tie.Need-irr-requires
-irr-requires c κs = search needs
-
-shift-of-requires : tie.Need-shift-of-requires
-shift-of-requires c κs = search needs
-
-iox-requires : tie.Need-iox-requires
-iox-requires c κs = search needs
-
-set-argument-requires : tie.Need-set-argument-requires
-set-argument-requires c κs = search needs
-
-add-argument-requires : tie.Need-add-argument-requires
-add-argument-requires c κs = search needs
-
-bit-instruction-requires : tie.Need-bit-instruction-requires
-bit-instruction-requires c κs = search needs
-
-returns : tie.Need-returns
-returns c = first-rows _ _ _ (c .memory .ensures) (c .before .operation-of .ensures) (omega arith)
-
-returns-2 : tie.Need-returns-2
-unfolding decode
-returns-2 c = row 17 640 _ _ _ (c .memory2 .ensures) refl (omega arith) (omega arith)
-
-returns-3 : tie.Need-returns-3
-unfolding decode
-returns-3 c = row 18 672 _ _ _ (c .memory3 .ensures) refl (omega arith) (omega arith)
-
-returns-4 : tie.Need-returns-4
-unfolding decode
-returns-4 c = row 19 704 _ _ _ (c .jump .ensures) refl (omega arith) (omega arith)
-
-returns-5 : tie.Need-returns-5
-unfolding decode
-returns-5 c = row 20 736 _ _ _ (c .memory4 .ensures) refl (omega arith) (omega arith)
-
-returns-6 : tie.Need-returns-6
-returns-6 c = search needs
-
-returns-7 : tie.Need-returns-7
-returns-7 c = search needs
-
-returns-8 : tie.Need-returns-8
-returns-8 c = search needs
-
-returns-9 : tie.Need-returns-9
-unfolding decode
-returns-9 c = row 65 840 _ _ _ (c .wait .ensures) refl (omega arith) (omega arith)
-
-returns-10 : tie.Need-returns-10
-unfolding decode
-returns-10 c = row 67 852 _ _ _ (c .srb-of .ensures) refl (omega arith) (omega arith)
-
-returns-11 : tie.Need-returns-11
-unfolding decode
-returns-11 c = row 68 854 _ _ _ (c .lrb-of .ensures) refl (omega arith) (omega arith)
-
-returns-12 : tie.Need-returns-12
-unfolding decode
-returns-12 c = row 69 856 _ _ _ (search needs) refl (omega arith) (omega arith)
-
-returns-13 : tie.Need-returns-13
-unfolding decode
-returns-13 c = row 70 860 _ _ _ (c .irw .ensures) refl (omega arith) (omega arith)
-
-returns-14 : tie.Need-returns-14
-unfolding decode
-returns-14 c = row 71 862 _ _ _ (c .irr .ensures) refl (omega arith) (omega arith)
-
-returns-15 : tie.Need-returns-15
-unfolding decode
-returns-15 c = row 72 864 _ _ _ (c .shift-of .ensures) refl (omega arith) (omega arith)
-
-returns-16 : tie.Need-returns-16
-unfolding decode
-returns-16 c = row 74 928 _ _ _ (c .iox .ensures) refl (omega arith) (omega arith)
-
-returns-17 : tie.Need-returns-17
-unfolding decode
-returns-17 c = row 75 960 _ _ _ (c .set-argument .ensures) refl (omega arith) (omega arith)
-
-returns-18 : tie.Need-returns-18
-unfolding decode
-returns-18 c = row 76 976 _ _ _ (c .add-argument .ensures) refl (omega arith) (omega arith)
-
-returns-19 : tie.Need-returns-19
-unfolding decode
-returns-19 c = row 77 992 _ _ _ (c .bit-instruction .ensures) refl (omega arith) (omega arith)
-
-returns-20 : tie.Need-returns-20
-unfolding decode
-returns-20 c = row 16 512 _ _ _ refl refl (omega arith) (omega arith)
-
-returns-21 : tie.Need-returns-21
-unfolding decode
-returns-21 c = row 66 844 _ _ _ refl refl (omega arith) (omega arith)
-
-returns-22 : tie.Need-returns-22
-unfolding decode
-returns-22 c = row 73 896 _ _ _ refl refl (omega arith) (omega arith)
-
-returns-23 : tie.Need-returns-23
-unfolding decode
-returns-23 c = beyond 1024 _ _ _ refl (omega arith)
+abbrev singles : List ℕ
+singles =
+    0o1504
+    ∷ 0o1503
+    ∷ 0o1502
+    ∷ 0o1501
+    ∷ 0o1500
+    ∷ 0o1436
+    ∷ 0o1434
+    ∷ 0o1432
+    ∷ 0o1430
+    ∷ 0o1426
+    ∷ 0o1424
+    ∷ 0o1422
+    ∷ 0o1420
+    ∷ 0o1416
+    ∷ 0o1414
+    ∷ 0o1412
+    ∷ 0o1410
+    ∷ 0o1406
+    ∷ 0o1404
+    ∷ 0o1400
+    ∷ []
 
 pub decode-spec : {M : Type 1} → statement M
 decode-spec =
     tie.close
     (tie.spec
-    operation-of-requires
-    memory-requires
-    memory-requires-2
-    memory-requires-3
-    jump-requires
-    memory-requires-4
-    skip-class-requires
-    register-class-requires
-    transfer-class-requires
-    wait-requires
-    srb-of-requires
-    lrb-of-requires
-    displacement-requires
-    irw-requires
-    irr-requires
-    shift-of-requires
-    iox-requires
-    set-argument-requires
-    add-argument-requires
-    bit-instruction-requires
-    returns
-    returns-2
-    returns-3
-    returns-4
-    returns-5
-    returns-6
-    returns-7
-    returns-8
-    returns-9
-    returns-10
-    returns-11
-    returns-12
-    returns-13
-    returns-14
-    returns-15
-    returns-16
-    returns-17
-    returns-18
-    returns-19
-    returns-20
-    returns-21
-    returns-22
-    returns-23)
+    (λ c κs. search needs)
+    (λ c κs. search needs)
+    (λ c κs. search needs)
+    (λ c κs. search needs)
+    (λ c κs. search needs)
+    (λ c κs. search needs)
+    (λ c κs. search needs)
+    (λ c κs. search needs)
+    (λ c κs. search needs)
+    (λ c κs. search needs)
+    (λ c κs. search needs)
+    (λ c κs. search needs)
+    (λ c κs. search needs)
+    (λ c κs. search needs)
+    (λ c κs. search needs)
+    (λ c κs. search needs)
+    (λ c κs. search needs)
+    (λ c κs. search needs)
+    (λ c κs. search needs)
+    (λ c κs. search needs)
+    (λ c κs. search needs)
+    (λ c κs. search needs)
+    (λ c κs. search needs)
+    (λ c κs. search needs)
+    (λ c κs. search needs)
+    (λ c κs. search needs)
+    (λ c κs. search needs)
+    (λ c κs. search needs)
+    (λ c κs. search needs)
+    (λ c κs. search needs)
+    (λ c κs. search needs)
+    (λ c κs. search needs)
+    (λ c κs. search needs)
+    (λ c κs. search needs)
+    (λ c κs. search needs)
+    (λ c κs. search needs)
+    (λ c κs. search needs)
+    (λ c κs. search needs)
+    (λ c κs. search needs)
+    (λ c κs. search needs)
+    (λ c κs. search needs)
+    (λ c κs. search needs)
+    (λ c κs. search needs)
+    (λ c κs. search needs)
+    (λ c κs. search needs)
+    (λ c κs. search needs)
+    (λ c κs. search needs)
+    (λ c κs. search needs)
+    (λ c κs. search needs)
+    (λ c κs. search needs)
+    (λ c κs. search needs)
+    (λ c κs. search needs)
+    (λ c κs. search needs)
+    (λ c κs. search needs)
+    (λ c. c .skip .ensures ∙ row-from 0o1400 0o1401 _ refl (omega arith) (omega arith))
+    (λ c. c .skip2 .ensures ∙ row-from 0o1404 0o1405 _ refl (omega arith) (omega arith))
+    (λ c. ap Execute (c .source-of .ensures) ∙ row-from 0o1406 0o1407 _ refl (omega arith) (omega arith))
+    (λ c. c .skip3 .ensures ∙ row-from 0o1410 0o1411 _ refl (omega arith) (omega arith))
+    (λ c. c .multiply .ensures ∙ row-from 0o1412 0o1413 _ refl (omega arith) (omega arith))
+    (λ c. c .skip4 .ensures ∙ row-from 0o1414 0o1415 _ refl (omega arith) (omega arith))
+    (λ c. c .divide .ensures ∙ row-from 0o1416 0o1417 _ refl (omega arith) (omega arith))
+    (λ c. c .skip5 .ensures ∙ row-from 0o1420 0o1421 _ refl (omega arith) (omega arith))
+    (λ c. row-from 0o1422 0o1423 _ refl (omega arith) (omega arith))
+    (λ c. c .skip6 .ensures ∙ row-from 0o1424 0o1425 _ refl (omega arith) (omega arith))
+    (λ c. row-from 0o1426 0o1427 _ refl (omega arith) (omega arith))
+    (λ c. c .skip7 .ensures ∙ row-from 0o1430 0o1431 _ refl (omega arith) (omega arith))
+    (λ c. row-from 0o1432 0o1433 _ refl (omega arith) (omega arith))
+    (λ c. c .skip8 .ensures ∙ row-from 0o1434 0o1435 _ refl (omega arith) (omega arith))
+    (λ c. c .ident .ensures ∙ row-from 0o1436 0o1437 _ refl (omega arith) (omega arith))
+    (λ c. c .tra-of .ensures ∙ row-from 0o1500 0o1501 _ refl (omega arith) (omega arith))
+    (λ c. c .trr-of .ensures ∙ row-from 0o1501 0o1502 _ refl (omega arith) (omega arith))
+    (λ c. c .masked-of .ensures ∙ row-from 0o1502 0o1503 _ refl (omega arith) (omega arith))
+    (λ c. c .masked-of2 .ensures ∙ row-from 0o1503 0o1504 _ refl (omega arith) (omega arith))
+    (λ c. c .switch-of .ensures ∙ row-from 0o1504 0o1505 _ refl (omega arith) (omega arith))
+    (λ c. c .memory .ensures ∙ row-from 0o0000 0o0040 _ refl (omega arith) (omega arith))
+    (λ c. c .memory2 .ensures ∙ row-from 0o0040 0o0100 _ refl (omega arith) (omega arith))
+    (λ c. c .memory3 .ensures ∙ row-from 0o0100 0o0140 _ refl (omega arith) (omega arith))
+    (λ c. c .memory4 .ensures ∙ row-from 0o0140 0o0200 _ refl (omega arith) (omega arith))
+    (λ c. c .memory5 .ensures ∙ row-from 0o0200 0o0240 _ refl (omega arith) (omega arith))
+    (λ c. c .memory6 .ensures ∙ row-from 0o0240 0o0300 _ refl (omega arith) (omega arith))
+    (λ c. c .memory7 .ensures ∙ row-from 0o0300 0o0340 _ refl (omega arith) (omega arith))
+    (λ c. c .memory8 .ensures ∙ row-from 0o0340 0o0400 _ refl (omega arith) (omega arith))
+    (λ c. c .memory9 .ensures ∙ row-from 0o0400 0o0440 _ refl (omega arith) (omega arith))
+    (λ c. c .memory10 .ensures ∙ row-from 0o0440 0o0500 _ refl (omega arith) (omega arith))
+    (λ c. c .memory11 .ensures ∙ row-from 0o0500 0o0540 _ refl (omega arith) (omega arith))
+    (λ c. c .memory12 .ensures ∙ row-from 0o0540 0o0600 _ refl (omega arith) (omega arith))
+    (λ c. c .memory13 .ensures ∙ row-from 0o0600 0o0640 _ refl (omega arith) (omega arith))
+    (λ c. c .memory14 .ensures ∙ row-from 0o0640 0o0700 _ refl (omega arith) (omega arith))
+    (λ c. c .memory15 .ensures ∙ row-from 0o0700 0o0740 _ refl (omega arith) (omega arith))
+    (λ c. c .memory16 .ensures ∙ row-from 0o0740 0o1000 _ refl (omega arith) (omega arith))
+    (λ c. c .memory17 .ensures ∙ row-from 0o1200 0o1240 _ refl (omega arith) (omega arith))
+    (λ c. c .memory18 .ensures ∙ row-from 0o1240 0o1300 _ refl (omega arith) (omega arith))
+    (λ c. c .jump .ensures ∙ row-from 0o1300 0o1340 _ refl (omega arith) (omega arith))
+    (λ c. c .memory19 .ensures ∙ row-from 0o1340 0o1400 _ refl (omega arith) (omega arith))
+    (λ c. c .logic .ensures ∙ row-from 0o1440 0o1444 _ refl (omega arith) (omega arith))
+    (λ c. c .logic2 .ensures ∙ row-from 0o1444 0o1450 _ refl (omega arith) (omega arith))
+    (λ c. c .logic3 .ensures ∙ row-from 0o1450 0o1454 _ refl (omega arith) (omega arith))
+    (λ c. c .logic4 .ensures ∙ row-from 0o1454 0o1460 _ refl (omega arith) (omega arith))
+    (λ c. c .adding .ensures ∙ row-from 0o1460 0o1464 _ refl (omega arith) (omega arith))
+    (λ c. c .adding2 .ensures ∙ row-from 0o1464 0o1470 _ refl (omega arith) (omega arith))
+    (λ c. c .adding3 .ensures ∙ row-from 0o1470 0o1474 _ refl (omega arith) (omega arith))
+    (λ c. row-from 0o1474 0o1500 _ refl (omega arith) (omega arith))
+    (λ c. row-from 0o1510 0o1514 _ refl (omega arith) (omega arith))
+    (λ c. c .srb-of .ensures ∙ row-from 0o1524 0o1526 _ refl (omega arith) (omega arith))
+    (λ c. c .lrb-of .ensures ∙ row-from 0o1526 0o1530 _ refl (omega arith) (omega arith))
+    (λ c. c .monitor .ensures ∙ row-from 0o1530 0o1534 _ refl (omega arith) (omega arith))
+    (λ c. c .irw .ensures ∙ row-from 0o1534 0o1536 _ refl (omega arith) (omega arith))
+    (λ c. c .irr .ensures ∙ row-from 0o1536 0o1540 _ refl (omega arith) (omega arith))
+    (λ c. c .shift-of .ensures ∙ row-from 0o1540 0o1600 _ refl (omega arith) (omega arith))
+    (λ c. c .iox .ensures ∙ row-from 0o1640 0o1700 _ refl (omega arith) (omega arith))
+    (λ c. c .set-argument .ensures ∙ row-from 0o1700 0o1720 _ refl (omega arith) (omega arith))
+    (λ c. c .add-argument .ensures ∙ row-from 0o1720 0o1740 _ refl (omega arith) (omega arith))
+    (λ c. c .bit-instruction .ensures ∙ row-from 0o1740 0o2000 _ refl (omega arith) (omega arith))
+    -- `_`: 100000 to 117777, 140000 to 143777, 150500 to 150777, 151400 to 152377, 160000 to 163777, and none above
+    (λ c. row-from 0o1000 0o1200 _ refl (omega arith) (omega arith))
+    (λ c.
+    let tests = c .before .before .before .before in
+    no-row singles 0o1400 0o0040 _ _ refl (tests .before .before .before .match .rest) (omega arith) (omega arith))
+    (λ c.
+    let tests = c .before .before .before .before in
+    no-row singles 0o1500 0o0010 _ _ refl (tests .before .match .rest) (omega arith) (omega arith))
+    (λ c. row-from 0o1514 0o1524 _ refl (omega arith) (omega arith))
+    (λ c. row-from 0o1600 0o1640 _ refl (omega arith) (omega arith))
+    (λ c. absurd (let none : ⊥ = omega arith in none)))

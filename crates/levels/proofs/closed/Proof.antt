@@ -16,6 +16,7 @@ mul-p c = search needs
 array-write-p : tie.Need-array-write-p
 array-write-p c = search needs
 
+-- the level's words are put back
 returns : tie.Need-returns
 returns c = simp (c .before .put-file .ensures)
 

@@ -19,6 +19,7 @@ mul-t11 c = search needs
 element-copy-out-t14 : tie.Need-element-copy-out-t14
 element-copy-out-t14 c = search needs
 
+-- the level's words are taken out
 returns : tie.Need-returns
 returns c = simp (c .before .file-at .ensures)
 

@@ -1,9 +1,8 @@
 -- Eight stores put the level's file back.
 -- Assumes nothing.
-use mathlib.Core.Path.{_≡_, sym, _∙_}
 use native.Mathlib.Omega.{arith}
-use lib.ListN.{length, length-set, length-map}
-use Rattle.levels.proofs.Laws.{eight-put}
+use lib.ListN.{length-set}
+use Rattle.levels.proofs.LevelLaws.{eight-put}
 use borrow.Author.Needs.{needs}
 use Rattle.levels.proofs.put_file.Statement.{statement}
 use Rattle.levels.proofs.put_file.Tie as tie
@@ -29,8 +28,9 @@ add-regs c = search needs
 mul-regs-2 : tie.Need-mul-regs-2
 mul-regs-2 c = search needs
 
+-- a store keeps the length: D, P, B, L, A, T, X
 slice-write-regs-2 : tie.Need-slice-write-regs-2
-slice-write-regs-2 c = let k = c .before .before .before in simp length-set (omega (arith, k .pre))
+slice-write-regs-2 c = simp length-set (omega arith)
 
 get-requires-3 : tie.Need-get-requires-3
 get-requires-3 c κs = search needs
@@ -42,7 +42,7 @@ mul-regs-3 : tie.Need-mul-regs-3
 mul-regs-3 c = search needs
 
 slice-write-regs-3 : tie.Need-slice-write-regs-3
-slice-write-regs-3 c = let k = c .before .before .before .before in simp length-set (omega (arith, k .pre))
+slice-write-regs-3 c = simp length-set (omega arith)
 
 get-requires-4 : tie.Need-get-requires-4
 get-requires-4 c κs = search needs
@@ -54,7 +54,7 @@ mul-regs-4 : tie.Need-mul-regs-4
 mul-regs-4 c = search needs
 
 slice-write-regs-4 : tie.Need-slice-write-regs-4
-slice-write-regs-4 c = let k = c .before .before .before .before .before in simp length-set (omega (arith, k .pre))
+slice-write-regs-4 c = simp length-set (omega arith)
 
 get-requires-5 : tie.Need-get-requires-5
 get-requires-5 c κs = search needs
@@ -66,7 +66,7 @@ mul-regs-5 : tie.Need-mul-regs-5
 mul-regs-5 c = search needs
 
 slice-write-regs-5 : tie.Need-slice-write-regs-5
-slice-write-regs-5 c = let k = c .before .before .before .before .before .before in simp length-set (omega (arith, k .pre))
+slice-write-regs-5 c = simp length-set (omega arith)
 
 get-requires-6 : tie.Need-get-requires-6
 get-requires-6 c κs = search needs
@@ -78,7 +78,7 @@ mul-regs-6 : tie.Need-mul-regs-6
 mul-regs-6 c = search needs
 
 slice-write-regs-6 : tie.Need-slice-write-regs-6
-slice-write-regs-6 c = let k = c .before .before .before .before .before .before .before in simp length-set (omega (arith, k .pre))
+slice-write-regs-6 c = simp length-set (omega arith)
 
 get-requires-7 : tie.Need-get-requires-7
 get-requires-7 c κs = search needs
@@ -90,7 +90,7 @@ mul-regs-7 : tie.Need-mul-regs-7
 mul-regs-7 c = search needs
 
 slice-write-regs-7 : tie.Need-slice-write-regs-7
-slice-write-regs-7 c = let k = c .before .before .before .before .before .before .before .before in simp length-set (omega (arith, k .pre))
+slice-write-regs-7 c = simp length-set (omega arith)
 
 get-requires-8 : tie.Need-get-requires-8
 get-requires-8 c κs = search needs
@@ -102,16 +102,28 @@ mul-regs-8 : tie.Need-mul-regs-8
 mul-regs-8 c = search needs
 
 slice-write-regs-8 : tie.Need-slice-write-regs-8
-slice-write-regs-8 c = let k = c .before .before .before .before .before .before .before .before .before in simp length-set (omega (arith, k .pre))
+slice-write-regs-8 c = simp length-set (omega arith)
 
+-- after all eight
 same-length : tie.Need-same-length
 same-length c = simp length-set
 
+-- the eight words are the file's
 returns : tie.Need-returns
 returns c =
-    let k = c .before .before .before .before .before .before .before .before .before in
-    let eight : length (k .args .f .words) ≡ 8 = sym (length-map (k .args .f .words) _) ∙ k .good .1 .1 .0 .1 .1 .0 .1 .0 .1 in
-    simp (c .before .before .before .before .before .before .before .get .ensures, c .before .before .before .before .before .before .get2 .ensures, c .before .before .before .before .before .get3 .ensures, c .before .before .before .before .get4 .ensures, c .before .before .before .get5 .ensures, c .before .before .get6 .ensures, c .before .get7 .ensures, c .get8 .ensures) (eight-put (k .args .regs .now) (k .args .level) (k .pre .0) (k .pre .1) (k .args .f) eight)
+    let fifth = c .before .before .before in
+    let first = fifth .before .before .before .before in
+    let start = first .before .before in
+    simp (
+      first .get .ensures,
+      fifth .before .before .before .get2 .ensures,
+      fifth .before .before .get3 .ensures,
+      fifth .before .get4 .ensures,
+      fifth .get5 .ensures,
+      c .before .before .get6 .ensures,
+      c .before .get7 .ensures,
+      c .get8 .ensures,
+    ) (eight-put (start .args .regs .now) (start .args .level) (start .pre .0) (start .pre .1) (start .args .f))
 
 pub put-file-spec : {M : Type 1} → statement M
 put-file-spec =

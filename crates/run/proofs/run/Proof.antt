@@ -1,5 +1,6 @@
 -- The loop on the running level's words out of the state, which are packed again.
 -- Assumes nothing.
+use Rattle.isa.specs.Machine.{levelCount, registerWords}
 use mathlib.Core.Path.{_≡_, sym, ap, _∙_}
 use lib.ListN.{length, length-map}
 use Rattle.isa.specs.Machine.{pack}
@@ -23,11 +24,13 @@ slice-aggregate-run-in-2 c = search needs
 
 run-in-requires : tie.Need-run-in-requires
 run-in-requires c κs =
-    let k = c .before .before .before .before .before .before .before .before .before in
-    let s = k .args .s in
-    let regs : length (s .regs) ≡ 128 = sym (length-map (s .regs) _) ∙ k .good .0 .1 .1 .0 .1 .0 .1 in
-    let pcrs : length (s .pcr) ≡ 16 = sym (length-map (s .pcr) _) ∙ k .good .0 .1 .1 .1 .1 .1 .0 .1 .0 .1 in
-    (k .pre .0, ((regs, pcrs), k .pre .1))
+    let at-opened = c .before .before .before .before in
+    let at-regs = at-opened .before .before in
+    let start = at-regs .before .before .before in
+    let s = start .args .s in
+    let regs : length (s .regs) ≡ registerWords = sym (length-map (s .regs) _) ∙ start .good .0 .1 .1 .0 .1 .0 .1 in
+    let pcrs : length (s .pcr) ≡ levelCount = sym (length-map (s .pcr) _) ∙ start .good .0 .1 .1 .1 .1 .1 .0 .1 .0 .1 in
+    (start .pre .0, ((regs, pcrs), start .pre .1))
 
 closed-requires : tie.Need-closed-requires
 closed-requires c κs = search needs
@@ -40,19 +43,28 @@ same-length-2 c = search needs
 
 returns : tie.Need-returns
 returns c =
-    let running = c .before .before .before .before .before .before .before .before in
-    let opening = running .before .before .before .before .before in
-    let k = opening .before .before .before .before .before in
-    let s = k .args .s in
-    let regs : length (s .regs) ≡ 128 = sym (length-map (s .regs) _) ∙ k .good .0 .1 .1 .0 .1 .0 .1 in
+    let at-tables = c .before .before .before in
+    let at-regs3 = at-tables .before .before .before .before in
+    let running = at-regs3 .before in
+    let at-regs2 = running .before .before .before .before in
+    let opening = at-regs2 .before in
+    let at-regs = opening .before .before in
+    let start = at-regs .before .before .before in
+    let s = start .args .s in
+    let regs : length (s .regs) ≡ registerWords = sym (length-map (s .regs) _) ∙ start .good .0 .1 .1 .0 .1 .0 .1 in
     let packed : pack (s .level) (opening .opened .result) (s .regs) (s .pcr) ≡ s =
-    ap (λ (c : Core). pack (s .level) c (s .regs) (s .pcr)) (opening .opened .ensures) ∙ pack-open s (k .pre .0) regs in
+    ap (λ (c : Core). pack (s .level) c (s .regs) (s .pcr)) (opening .opened .ensures)
+    ∙ pack-open s (start .pre .0) regs in
     let r = running .run-in in
     let after = r .last .1 .1 .1 .1 in
-    let m = k .args .mem .now in
-    let t = k .args .tables .now in (
-      ap (λ (x : State). ended (r .result .reason) (r .result .steps) x (after .0) (after .1 .0)) (c .closed .ensures) ∙ r .ensures .1 .0 ∙ ap (λ (x : State). runFrom (k .args .first) (k .args .n) 0 x m t) packed,
-      λ o f. ap (λ (x : State). turn x (r .result .gave) (after .0) (after .1 .0)) (c .closed .ensures) ∙ r .ensures .1 .1 o f ∙ ap (λ (x : State). step x m t) packed,
+    let m = start .args .mem .now in
+    let t = start .args .tables .now in (
+      ap (λ (x : State). ended (r .result .reason) (r .result .steps) x (after .0) (after .1 .0)) (c .closed .ensures)
+          ∙ r .ensures .1 .0
+          ∙ ap (λ (x : State). runFrom (start .args .first) (start .args .n) 0 x m t) packed,
+      λ o f. ap (λ (x : State). turn x (r .result .gave) (after .0) (after .1 .0)) (c .closed .ensures)
+          ∙ r .ensures .1 .1 o f
+          ∙ ap (λ (x : State). step x m t) packed,
     )
 
 pub run-spec : {M : Type 1} → statement M

@@ -8,7 +8,8 @@ use Rattle.cases.proofs.change.change_all.Statement.{statement}
 use Rattle.cases.proofs.change.change_all.Tie as tie
 
 abbrev Inv-loop : tie.InvT-loop
-Inv-loop words at flat₀ mem₀ tables₀ end k₀ flat mem tables k = (length mem ≡ length mem₀) × (length tables ≡ length tables₀)
+Inv-loop words at flat₀ mem₀ tables₀ end k₀ flat mem tables k =
+    (length mem ≡ length mem₀) × (length tables ≡ length tables₀)
 
 abbrev μ-loop : tie.MeasureT-loop
 μ-loop words at flat₀ mem₀ tables₀ end k₀ flat mem tables k = end - k

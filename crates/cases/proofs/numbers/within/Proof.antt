@@ -6,9 +6,11 @@ use lib.Seq.{length-take-le}
 use Rattle.cases.proofs.numbers.within.Statement.{statement}
 use Rattle.cases.proofs.numbers.within.Tie as tie
 
+-- as many as were asked for
 returns : tie.Need-returns
 returns c = (c .if1 .taken, sym (length-take-le _ _ (c .if1 .taken)))
 
+-- all of the words
 returns-2 : tie.Need-returns-2
 returns-2 c = (le-refl _, sym (length-take-le _ (c .before .args .words .now) (le-refl _)))
 

@@ -51,7 +51,7 @@ returns-15 : tie.Need-returns-15
 returns-15 c = search needs
 
 returns-16 : tie.Need-returns-16
-returns-16 c = last 15 _ _ _ _ refl refl (c .match .rest)
+returns-16 c = last _ _ _ _ _ refl (c .match .rest)
 
 pub bit-op-of-spec : {M : Type 1} → statement M
 bit-op-of-spec =

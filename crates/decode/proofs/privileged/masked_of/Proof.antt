@@ -3,7 +3,7 @@
 use mathlib.Core.Path.{refl}
 use mathlib.Core.List.{[], _∷_}
 use Rattle.isa.specs.Decode.{maskedOf}
-use Rattle.decode.proofs.Laws.{needs, no-code}
+use Rattle.decode.proofs.Laws.{needs, no-low-code}
 use Rattle.decode.proofs.privileged.masked_of.Statement.{statement}
 use Rattle.decode.proofs.privileged.masked_of.Tie as tie
 
@@ -30,7 +30,7 @@ returns-3 c = search needs
 
 returns-4 : tie.Need-returns-4
 unfolding maskedOf
-returns-4 c = no-code (7 ∷ 6 ∷ 1 ∷ []) 16 _ _ _ refl refl (c .match .rest)
+returns-4 c = no-low-code (0o07 ∷ 0o06 ∷ 0o01 ∷ []) _ _ _ refl (c .match .rest)
 
 pub masked-of-spec : {M : Type 1} → statement M
 masked-of-spec =

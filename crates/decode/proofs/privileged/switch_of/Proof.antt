@@ -3,7 +3,7 @@
 use mathlib.Core.Path.{refl}
 use mathlib.Core.List.{[], _∷_}
 use Rattle.isa.specs.Decode.{switchOf}
-use Rattle.decode.proofs.Laws.{needs, no-code}
+use Rattle.decode.proofs.Laws.{needs, no-low-code}
 use Rattle.decode.proofs.privileged.switch_of.Statement.{statement}
 use Rattle.decode.proofs.privileged.switch_of.Tie as tie
 
@@ -63,7 +63,8 @@ returns-9 c = search needs
 
 returns-10 : tie.Need-returns-10
 unfolding switchOf
-returns-10 c = no-code (15 ∷ 14 ∷ 13 ∷ 10 ∷ 8 ∷ 5 ∷ 4 ∷ 2 ∷ 1 ∷ []) 16 _ _ _ refl refl (c .match .rest)
+returns-10 c =
+    no-low-code (0o17 ∷ 0o16 ∷ 0o15 ∷ 0o12 ∷ 0o10 ∷ 0o05 ∷ 0o04 ∷ 0o02 ∷ 0o01 ∷ []) _ _ _ refl (c .match .rest)
 
 pub switch-of-spec : {M : Type 1} → statement M
 switch-of-spec =

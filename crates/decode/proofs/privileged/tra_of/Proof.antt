@@ -3,7 +3,7 @@
 use mathlib.Core.Path.{refl}
 use mathlib.Core.List.{[], _∷_}
 use Rattle.isa.specs.Decode.{traOf}
-use Rattle.decode.proofs.Laws.{needs, no-code}
+use Rattle.decode.proofs.Laws.{needs, no-low-code}
 use Rattle.decode.proofs.privileged.tra_of.Statement.{statement}
 use Rattle.decode.proofs.privileged.tra_of.Tie as tie
 
@@ -62,7 +62,7 @@ returns-8 c = search needs
 
 returns-9 : tie.Need-returns-9
 unfolding traOf
-returns-9 c = no-code (12 ∷ 9 ∷ 7 ∷ 6 ∷ 5 ∷ 4 ∷ 3 ∷ 1 ∷ []) 16 _ _ _ refl refl (c .match .rest)
+returns-9 c = no-low-code (0o14 ∷ 0o11 ∷ 0o07 ∷ 0o06 ∷ 0o05 ∷ 0o04 ∷ 0o03 ∷ 0o01 ∷ []) _ _ _ refl (c .match .rest)
 
 pub tra-of-spec : {M : Type 1} → statement M
 tra-of-spec =

@@ -3,7 +3,7 @@
 use mathlib.Core.Path.{refl}
 use mathlib.Core.List.{[], _∷_}
 use Rattle.isa.specs.Decode.{trrOf}
-use Rattle.decode.proofs.Laws.{needs, no-code}
+use Rattle.decode.proofs.Laws.{needs, no-low-code}
 use Rattle.decode.proofs.privileged.trr_of.Statement.{statement}
 use Rattle.decode.proofs.privileged.trr_of.Tie as tie
 
@@ -41,7 +41,7 @@ returns-5 c = search needs
 
 returns-6 : tie.Need-returns-6
 unfolding trrOf
-returns-6 c = no-code (7 ∷ 6 ∷ 5 ∷ 3 ∷ 1 ∷ []) 16 _ _ _ refl refl (c .match .rest)
+returns-6 c = no-low-code (0o07 ∷ 0o06 ∷ 0o05 ∷ 0o03 ∷ 0o01 ∷ []) _ _ _ refl (c .match .rest)
 
 pub trr-of-spec : {M : Type 1} → statement M
 trr-of-spec =

@@ -29,11 +29,15 @@ file-at-requires c κs = search needs
 mul-t13 : tie.Need-mul-t13
 mul-t13 c = search needs
 
+-- the new level's PCR
 slice-read-t19 : tie.Need-slice-read-t19
 slice-read-t19 c =
-    let chosen = c .before .before .before .before .before .before .before in
-    let k = chosen .before .before .before .before .before in
-    simp length-set (omega (arith, chosen .highest-level .ensures .1, k .pre))
+    let read = c .before in
+    let put = read .before .before .before .before in
+    let chosen = put .before .before in
+    let control = chosen .before in
+    let start = control .before .before .before .before in
+    simp length-set (omega (arith, chosen .highest-level .ensures .1, start .pre))
 
 same-length : tie.Need-same-length
 same-length c = search needs
@@ -41,13 +45,21 @@ same-length c = search needs
 same-length-2 : tie.Need-same-length-2
 same-length-2 c = search needs
 
+-- the new level's words, and PVL
 returns : tie.Need-returns
 returns c =
-    let putting = c .before .before .before .before .before in
-    let chosen = putting .before .before in
-    let k = chosen .before .before .before .before .before in
+    let read = c .before in
+    let put = read .before .before .before .before in
+    let chosen = put .before .before in
+    let control = chosen .before in
+    let start = control .before .before .before .before in
+    let a = start .args in
     let to = chosen .highest-level in
-    ((to .ensures .1, refl), λ m t. changed-level (k .args .level) (k .args .c) (k .args .regs .now) (k .args .pcrs .now) (to .result) m t (to .ensures .1) (putting .put-file .last .0) (c .before .file-at .result) (putting .put-file .kept .0 ∙ k .pre .1 .0) (putting .put-file .ensures) (c .before .file-at .ensures) (to .ensures .0))
+    let length = put .put-file .kept .0 ∙ start .pre .1 .0 in
+    let moved =
+    changed-level (a .level) (a .c) (a .regs .now) (a .pcrs .now) _ (to .ensures .1) _ _ length
+    (put .put-file .ensures) (read .file-at .ensures) (to .ensures .0) in
+    ((to .ensures .1, refl), moved)
 
 pub changed-spec : {M : Type 1} → statement M
 changed-spec =

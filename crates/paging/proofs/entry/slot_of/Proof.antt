@@ -11,6 +11,7 @@ mul-result c = search needs
 add-result : tie.Need-add-result
 add-result c = search needs
 
+-- by the alternate table
 returns : tie.Need-returns
 returns c = (simp (c .before .if1 .taken), omega arith)
 
@@ -20,6 +21,7 @@ mul-result-2 c = search needs
 add-result-2 : tie.Need-add-result-2
 add-result-2 c = search needs
 
+-- by the normal table
 returns-2 : tie.Need-returns-2
 returns-2 c = (simp (c .before .if1 .left), omega arith)
 

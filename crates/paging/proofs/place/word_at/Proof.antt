@@ -15,13 +15,19 @@ enum-told c = search needs
 enum-known-x : tie.Need-enum-known-x
 enum-known-x c = search needs
 
+-- no overflow: Load(p)
 mul-result : tie.Need-mul-result
 mul-result c =
-    let h : c .before .x .given .0 .0 < length (c .before .before .before .args .mem .now) = subst (Within (length (c .before .before .before .args .mem .now))) (c .before .x .given .1) (c .before .before .before .pre .0) in
+    let start = c .before .before .before in
+    let h : c .before .x .given .0 .0 < length (start .args .mem .now) =
+    subst (Within (length (start .args .mem .now))) (c .before .x .given .1) (start .pre .0) in
     omega arith
 
+-- the index lies within: Load(p)
 shared-slice-read-result : tie.Need-shared-slice-read-result
-shared-slice-read-result c = subst (Within (length (c .before .before .before .before .args .mem .now))) (c .before .before .x .given .1) (c .before .before .before .before .pre .0)
+shared-slice-read-result c =
+    let start = c .before .before .before .before in
+    subst (Within (length (start .args .mem .now))) (c .before .before .x .given .1) (start .pre .0)
 
 enum-told-2 : tie.Need-enum-told-2
 enum-told-2 c = search needs
@@ -29,14 +35,20 @@ enum-told-2 c = search needs
 enum-known-x-2 : tie.Need-enum-known-x-2
 enum-known-x-2 c = search needs
 
+-- no overflow: LoadTable(i)
 mul-result-2 : tie.Need-mul-result-2
 mul-result-2 c =
-    let h : c .before .x2 .given .0 .0 < 256 = subst (Within (length (c .before .before .before .args .mem .now))) (c .before .x2 .given .1) (c .before .before .before .pre .0) in
+    let start = c .before .before .before in
+    let h : c .before .x2 .given .0 .0 < 256 =
+    subst (Within (length (start .args .mem .now))) (c .before .x2 .given .1) (start .pre .0) in
     omega arith
 
+-- the index lies within: LoadTable(i)
 shared-slice-read-result-2 : tie.Need-shared-slice-read-result-2
 shared-slice-read-result-2 c =
-    let h : c .before .before .x2 .given .0 .0 < 256 = subst (Within (length (c .before .before .before .before .args .mem .now))) (c .before .before .x2 .given .1) (c .before .before .before .before .pre .0) in
+    let start = c .before .before .before .before in
+    let h : c .before .before .x2 .given .0 .0 < 256 =
+    subst (Within (length (start .args .mem .now))) (c .before .before .x2 .given .1) (start .pre .0) in
     omega arith
 
 enum-told-3 : tie.Need-enum-told-3
@@ -54,12 +66,14 @@ enum-told-6 c = search needs
 returns : tie.Need-returns
 returns c = search needs
 
+-- Load(p)
 returns-2 : tie.Need-returns-2
 returns-2 c = simp (c .before .before .x .given .1)
 
 returns-3 : tie.Need-returns-3
 returns-3 c = search needs
 
+-- LoadTable(i)
 returns-4 : tie.Need-returns-4
 returns-4 c = simp (c .before .before .x2 .given .1)
 

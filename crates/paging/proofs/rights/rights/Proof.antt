@@ -1,18 +1,26 @@
--- The rights are read off PTM and the PCR.
+-- The rights of the level, with PTM of STS.
 -- Assumes nothing.
-use native.Mathlib.Omega.{arith}
+use Prim.Native.Nat.{_<_}
+use mathlib.Core.Path.{sym, subst}
+use Rattle.isa.specs.declared.access.Rights.{Rights}
+use Rattle.paging.proofs.Levels.{flags-below}
 use borrow.Author.Needs.{needs}
 use Rattle.paging.proofs.rights.rights.Statement.{statement}
 use Rattle.paging.proofs.rights.rights.Tie as tie
 
-cast-t6 : tie.Need-cast-t6
-cast-t6 c = search needs
+level-rights-requires : tie.Need-level-rights-requires
+level-rights-requires c κs = search needs
 
-alternate-of-requires : tie.Need-alternate-of-requires
-alternate-of-requires c κs = search needs
+by-flags-requires : tie.Need-by-flags-requires
+by-flags-requires c κs = search needs
 
 returns : tie.Need-returns
-returns c = (simp (c .alternate-of .ensures .0), (omega arith, c .alternate-of .ensures .1))
+returns c =
+    let level = c .before .level-rights in
+    let below = flags-below (level .result) (c .before .before .args .sts) (level .ensures .1) in (
+      simp (c .by-flags .ensures, level .ensures .0),
+      subst (λ (q : Rights). (q .normal < 4) × (q .alternate < 4)) (sym (c .by-flags .ensures)) below,
+    )
 
 pub rights-spec : {M : Type 1} → statement M
-rights-spec = tie.close (tie.spec cast-t6 alternate-of-requires returns)
+rights-spec = tie.close (tie.spec level-rights-requires by-flags-requires returns)

@@ -5,14 +5,17 @@ use Rattle.isa.specs.Pages.{inWindow}
 use Rattle.paging.proofs.translation.in_window.Statement.{statement}
 use Rattle.paging.proofs.translation.in_window.Tie as tie
 
+-- a high address with paging on: the ring tells
 returns : tie.Need-returns
 unfolding inWindow
 returns c = simp (c .before .if2 .taken, le-leb _ _ (c .before .before .if1 .taken))
 
+-- a high address with paging off
 returns-2 : tie.Need-returns-2
 unfolding inWindow
 returns-2 c = simp (c .if2 .left, le-leb _ _ (c .before .if1 .taken))
 
+-- an address below the window
 returns-3 : tie.Need-returns-3
 unfolding inWindow
 returns-3 c = simp (lt-leb _ _ (c .if1 .left))

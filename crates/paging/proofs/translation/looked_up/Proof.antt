@@ -3,7 +3,8 @@
 use mathlib.Core.Path.{refl, sym, _∙_}
 use borrow.Author.Needs.{needs}
 use borrow.Author.Tests.{lt-ltb, le-ltb, le-leb, lt-leb}
-use Rattle.paging.proofs.Laws.{refused-fails, judged-within, judged-beyond, judged-ring, judged-refused, memory-passes}
+use Rattle.paging.proofs.Laws.{refused-fails, judged-within, judged-beyond, judged-ring, judged-refused}
+use Rattle.paging.proofs.Laws.{memory-passes}
 use Rattle.paging.proofs.translation.looked_up.Statement.{statement}
 use Rattle.paging.proofs.translation.looked_up.Tie as tie
 
@@ -46,12 +47,16 @@ in-memory-requires c κs = search needs
 same-length : tie.Need-same-length
 same-length c = search needs
 
+-- permitted, the ring allows, and the page lies within the memory: the entry is marked
 returns : tie.Need-returns
 returns c =
-    let n = sym (c .before .before .before .before .before .permitted .ensures) ∙ c .before .before .before .before .if1 .taken in
-    let w = judged-within _ _ _ _ _ _ n (le-leb _ _ (c .before .before .before .if2 .taken)) (lt-ltb _ _ (c .before .before .if3 .taken)) in
+    let ring-tested = c .before .before .before in
+    let n = sym (ring-tested .before .before .permitted .ensures) ∙ ring-tested .before .if1 .taken in
+    let w = judged-within _ _ _ _ _ _ n (le-leb _ _ (ring-tested .if2 .taken))
+    (lt-ltb _ _ (c .before .before .if3 .taken)) in
     (c .in-memory .ensures ∙ sym w, simp (c .in-memory .ensures, memory-passes, c .before .mark .ensures))
 
+-- permitted, the ring allows, and the page lies beyond the memory
 returns-2 : tie.Need-returns-2
 returns-2 c =
     let n = sym (c .before .before .before .permitted .ensures) ∙ c .before .before .if1 .taken in
@@ -60,6 +65,7 @@ returns-2 c =
 status-requires : tie.Need-status-requires
 status-requires c κs = search needs
 
+-- permitted, and the entry's ring is above the user's
 returns-3 : tie.Need-returns-3
 returns-3 c =
     let n = sym (c .before .before .before .permitted .ensures) ∙ c .before .before .if1 .taken in
@@ -68,6 +74,7 @@ returns-3 c =
 refused-requires : tie.Need-refused-requires
 refused-requires c κs = search needs
 
+-- the needed permit is missing
 returns-4 : tie.Need-returns-4
 returns-4 c =
     let n = sym (c .before .before .permitted .ensures) ∙ c .before .if1 .left in

@@ -11,12 +11,14 @@ some-permit-requires c κs = search needs
 status-requires : tie.Need-status-requires
 status-requires c κs = search needs
 
+-- some permit is set: a protection fault
 returns : tie.Need-returns
 returns c = simp (c .status .ensures, sym (c .before .before .some-permit .ensures) ∙ c .before .if1 .taken)
 
 status-requires-2 : tie.Need-status-requires-2
 status-requires-2 c κs = search needs
 
+-- no permit is set: a page fault
 returns-2 : tie.Need-returns-2
 returns-2 c = simp (c .status2 .ensures, sym (c .before .before .some-permit .ensures) ∙ c .before .if1 .left)
 

@@ -1,0 +1,42 @@
+-- What a test says that is passed: of answers, of sizes.
+-- Assumes nothing.
+use Rattle.isa.specs.Machine.{tableWords}
+use Prim.Native.Nat.{ℕ, _%_, _≤_}
+use mathlib.Core.Path.{_≡_, refl}
+use mathlib.Core.Bool.{Bool, true, false, cond, not, _&&_}
+use mathlib.Core.List.{List}
+use native.Mathlib.Omega.{arith}
+use lib.ListN.{length}
+use lib.Dec.{leb, eqb}
+use borrow.Author.Tests.{leb-true, eqb-true}
+use Rattle.isa.specs.Machine.{sizesFit, inRange, memorySize}
+use Rattle.isa.specs.Answers.{stateAnswer}
+use Rattle.isa.specs.declared.machine.State.{State}
+use Rattle.isa.specs.declared.answer.Refusal.{Refusal}
+use Rattle.isa.specs.declared.answer.Refusal.the-variants.{Sizes, State as StateRange}
+use Rattle.isa.specs.declared.answer.Answer.the-variants.{Done, Refused}
+use Rattle.isa.proofs.Tests.{and-left, and-right}
+
+pub refused-not-done : (r : Refusal) → Refused r ≡ Done → ⊥
+refused-not-done r p = let z : _≡_ {A = ℕ} 0 1 = cc in omega arith
+
+-- what sizes that fit say
+module _ (m t : List ℕ) (h : sizesFit m t ≡ true) where
+  pub memory-most : length m ≤ 524288
+  unfolding sizesFit
+  memory-most =
+      leb-true (length m) 524288
+      (and-right (eqb (length m % 1024) 0 && leb 1024 (length m)) (leb (length m) 524288)
+      (and-left (memorySize (length m)) (eqb (length t) 256) h))
+
+  pub tables-all : length t ≡ tableWords
+  unfolding sizesFit
+  tables-all = eqb-true (length t) 256 (and-right (memorySize (length m)) (eqb (length t) 256) h)
+
+pub sizes-of : (s : State) (m t : List ℕ) → stateAnswer s m t ≡ Done → sizesFit m t ≡ true
+unfolding stateAnswer
+sizes-of s m t = go (sizesFit m t)
+  where
+    go : (b : Bool) → cond (not b) (Refused Sizes) (cond (not (inRange s)) (Refused StateRange) Done) ≡ Done → b ≡ true
+    go true e = refl
+    go false e = cc

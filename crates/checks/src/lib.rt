@@ -1,0 +1,229 @@
+// Tests of what callers hand in: the sizes of lent words, and the ranges of a state.
+ghost use mathlib.Core.Path.{_≡_};
+ghost use mathlib.Core.Bool.{true, _&&_};
+ghost use lib.Dec.{ltb};
+ghost use Rattle.isa.specs.Machine.{memorySize, sizesFit, interruptBits, pcrBits, pgsBits, controlInRange};
+ghost use Rattle.isa.specs.Machine.{allPcrBits, flagsFit, inRange};
+ghost use Rattle.isa.specs.Answers.{stateAnswer, deviceLevel, raised};
+use arithmetic::bits::with_bit;
+use isa::answer::Answer;
+use isa::answer::Refusal;
+use isa::machine::Control;
+use isa::machine::State;
+
+pub mod answers;
+
+// Pages of 1,024 words, at least one, at most 524,288 words.
+fn memory_size(n: usize) -> bool
+    ensures { λ r. ⌜ r ≡ memorySize n ⌝ }
+{
+    if n % 1024 != 0 {
+        return false;
+    }
+    if n < 1024 {
+        return false;
+    }
+    n <= 524288
+}
+
+// Whether memory and page tables have the sizes of document 01.
+pub fn sizes_fit(mem: &[u16], tables: &[u16]) -> bool
+    ensures { λ r. ⌜ r ≡ sizesFit (now (mem .entry)) (now (tables .entry)) ⌝ }
+{
+    if memory_size(mem.len()) {
+        return tables.len() == 256;
+    }
+    false
+}
+
+// Bits 1 to 10.
+fn interrupt_bits(w: u16) -> bool
+    ensures { λ r. ⌜ r ≡ interruptBits w ⌝ }
+{
+    if w % 2 == 0 {
+        return w < 2048;
+    }
+    false
+}
+
+// Bits 0-1 and 7-10.
+fn pcr_bits(w: u16) -> bool
+    ensures { λ r. ⌜ r ≡ pcrBits w ⌝ }
+{
+    if w / 4 % 32 == 0 {
+        return w < 2048;
+    }
+    false
+}
+
+// Bits 15, 14 and 7-0.
+fn pgs_bits(w: u16) -> bool
+    ensures { λ r. ⌜ r ≡ pgsBits w ⌝ }
+{
+    w / 256 % 64 == 0
+}
+
+// Paging on, stopped: 0 or 1.
+fn modes_fit(c: Control) -> bool
+    ensures { λ r. ⌜ r ≡ (ltb (c .paging) 2 && ltb (c .stopped) 2) ⌝ }
+{
+    if c.paging < 2 {
+        return c.stopped < 2;
+    }
+    false
+}
+
+// Interrupts on, paging on, stopped: 0 or 1.
+fn switches_fit(c: Control) -> bool
+    ensures { λ r. ⌜ r ≡ (ltb (c .interrupts) 2 && ltb (c .paging) 2 && ltb (c .stopped) 2) ⌝ }
+{
+    if c.interrupts < 2 {
+        return modes_fit(c);
+    }
+    false
+}
+
+// IIE and PGS.
+fn masks_fit(c: Control) -> bool
+    ensures { λ r. ⌜ r ≡ (interruptBits (c .iie) && pgsBits (c .pgs)) ⌝ }
+{
+    if interrupt_bits(c.iie) {
+        return pgs_bits(c.pgs);
+    }
+    false
+}
+
+// IID, IIE and PGS.
+fn registers_fit(c: Control) -> bool
+    ensures { λ r. ⌜ r ≡ (interruptBits (c .iid) && interruptBits (c .iie) && pgsBits (c .pgs)) ⌝ }
+{
+    if interrupt_bits(c.iid) {
+        return masks_fit(c);
+    }
+    false
+}
+
+// PVL, IID, IIE and PGS.
+fn numbers_fit(c: Control) -> bool
+    ensures { λ r. ⌜ r ≡ (ltb (c .pvl) 16 && interruptBits (c .iid) && interruptBits (c .iie) && pgsBits (c .pgs)) ⌝ }
+{
+    if c.pvl < 16 {
+        return registers_fit(c);
+    }
+    false
+}
+
+// The control words 1 to 9.
+fn control_in_range(c: Control) -> bool
+    ensures { λ r. ⌜ r ≡ controlInRange c ⌝ }
+{
+    if switches_fit(c) {
+        return numbers_fit(c);
+    }
+    false
+}
+
+// Every PCR.
+fn all_pcr_bits(p: [u16; 16]) -> bool
+    ensures { λ r. ⌜ r ≡ allPcrBits p ⌝ }
+{
+    let mut i: usize = 0;
+    while i < 16 {
+        if pcr_bits(p[i]) {
+            i += 1;
+        } else {
+            return false;
+        }
+    }
+    true
+}
+
+// Every STS.
+fn flags_fit(b: [u16; 128]) -> bool
+    ensures { λ r. ⌜ r ≡ flagsFit 16 b ⌝ }
+{
+    let mut i: usize = 0;
+    while i < 16 {
+        if 256 <= b[i * 8] {
+            return false;
+        }
+        i += 1;
+    }
+    true
+}
+
+// PCRs and registers.
+fn arrays_in_range(s: State) -> bool
+    ensures { λ r. ⌜ r ≡ (allPcrBits (s .pcr) && flagsFit 16 (s .regs)) ⌝ }
+{
+    let p = s.pcr;
+    let b = s.regs;
+    if all_pcr_bits(p) {
+        return flags_fit(b);
+    }
+    false
+}
+
+// All but the level.
+fn words_in_range(s: State) -> bool
+    ensures { λ r. ⌜ r ≡ (controlInRange (s .control) && allPcrBits (s .pcr) && flagsFit 16 (s .regs)) ⌝ }
+{
+    let c = s.control;
+    if control_in_range(c) {
+        return arrays_in_range(s);
+    }
+    false
+}
+
+// Whether a state is in the ranges of document 01.
+pub fn in_range(s: State) -> bool
+    ensures { λ r. ⌜ r ≡ inRange s ⌝ }
+{
+    if s.level < 16 {
+        return words_in_range(s);
+    }
+    false
+}
+
+// Refusal 1, sizes; refusal 2, a state out of range.
+pub fn state_answer(s: State, mem: &[u16], tables: &[u16]) -> Answer
+    ensures { λ r. ⌜ r ≡ stateAnswer s (now (mem .entry)) (now (tables .entry)) ⌝ }
+{
+    if sizes_fit(mem, tables) {
+        if in_range(s) {
+            return Answer::Done;
+        }
+        return Answer::Refused(Refusal::State);
+    }
+    Answer::Refused(Refusal::Sizes)
+}
+
+// The levels that devices raise.
+pub fn device_level(l: u16) -> bool
+    ensures { λ r. ⌜ r ≡ deviceLevel l ⌝ }
+{
+    if l < 10 {
+        return false;
+    }
+    if l <= 13 {
+        return true;
+    }
+    l == 15
+}
+
+// The state with a device level's bit of PID set.
+pub fn raised(s: State, l: u16) -> State
+    requires { ⌜ deviceLevel l ≡ true ⌝ }
+    ensures { λ r. ⌜ r ≡ raised s l ⌝ }
+{
+    let mut c = s.control;
+    let p = s.pcr;
+    let b = s.regs;
+    c.pid = with_bit(l, 1, c.pid);
+    State {
+        regs: b,
+        level: s.level,
+        control: c,
+        pcr: p,
+    }
+}

@@ -1,0 +1,144 @@
+// TRA, TRR, MCL and MST: the internal registers.
+ghost use mathlib.Core.Path.{_≡_};
+ghost use Prim.Native.Nat.{_<_};
+ghost use Rattle.isa.specs.System.{statusWord, internalWord, afterReading, read, withSts, written, cleared, masked};
+ghost use Rattle.isa.specs.System.{withPid, withPie, withInternal};
+ghost use Rattle.isa.specs.Machine.{withControl};
+use isa::instruction::Maskable;
+use isa::instruction::Readable;
+use isa::instruction::Writable;
+use isa::machine::Control;
+use isa::machine::Core;
+use isa::machine::Register;
+
+// The full status word.
+fn status_word(level: u16, k: Control, sts: u16) -> u16
+    ensures { λ r. ⌜ r ≡ statusWord level k sts ⌝ }
+{
+    k.interrupts % 2 * 32768 + k.paging % 2 * 16384 + 4096 + level % 16 * 256 + sts % 256
+}
+
+// TRA: what A gets.
+fn internal_word(level: u16, c: Core, r: Readable) -> u16
+    requires { ⌜ level < 16 ⌝ }
+    ensures { λ w. ⌜ w ≡ internalWord level c r ⌝ }
+{
+    let k = c.control;
+    let f = c.file;
+    match r {
+        Readable::Status => status_word(level, k, f.get(Register::Sts)),
+        Readable::Pgs => k.pgs,
+        Readable::Pvl => 55170 + k.pvl % 16 * 8,
+        Readable::Iic => arithmetic::bits::highest(k.iid),
+        Readable::Pid => k.pid,
+        Readable::Pie => k.pie,
+        Readable::Actl => 1 << level,
+    }
+}
+
+// TRA IIC clears IID.
+fn after_reading(k: Control, r: Readable) -> Control
+    ensures { λ t. ⌜ t ≡ afterReading k r ⌝ }
+{
+    match r {
+        Readable::Status => k,
+        Readable::Pgs => k,
+        Readable::Pvl => k,
+        Readable::Iic => without_interrupts(k),
+        Readable::Pid => k,
+        Readable::Pie => k,
+        Readable::Actl => k,
+    }
+}
+
+fn without_interrupts(k: Control) -> Control
+    ensures { λ t. ⌜ t ≡ withInternal k 0 (k .iie) (k .pgs) ⌝ }
+{
+    let mut t = k;
+    t.iid = 0;
+    t
+}
+
+pub fn read(level: u16, c: Core, r: Readable) -> Core
+    requires { ⌜ level < 16 ⌝ }
+    ensures { λ d. ⌜ d ≡ read level c r ⌝ }
+{
+    let k = c.control;
+    let f = c.file;
+    let g = f.with(Register::A, internal_word(level, c, r));
+    let d = c.with_file(g);
+    d.with_control(after_reading(k, r))
+}
+
+fn with_sts(c: Core, w: u16) -> Core
+    ensures { λ d. ⌜ d ≡ withSts c w ⌝ }
+{
+    let f = c.file;
+    c.with_file(f.with(Register::Sts, w % 256))
+}
+
+fn with_iie(c: Core, w: u16) -> Core
+    ensures { λ d. ⌜ d ≡ withControl c (withInternal (c .control) (c .control .iid) w (c .control .pgs)) ⌝ }
+{
+    let mut k = c.control;
+    k.iie = w;
+    c.with_control(k)
+}
+
+fn with_pid(c: Core, w: u16) -> Core
+    ensures { λ d. ⌜ d ≡ withControl c (withPid (c .control) w) ⌝ }
+{
+    let mut k = c.control;
+    k.pid = w;
+    c.with_control(k)
+}
+
+fn with_pie(c: Core, w: u16) -> Core
+    ensures { λ d. ⌜ d ≡ withControl c (withPie (c .control) w) ⌝ }
+{
+    let mut k = c.control;
+    k.pie = w;
+    c.with_control(k)
+}
+
+// TRR of A.
+pub fn written(c: Core, r: Writable) -> Core
+    ensures { λ d. ⌜ d ≡ written c r ⌝ }
+{
+    let f = c.file;
+    let a = f.get(Register::A);
+    match r {
+        Writable::Status => with_sts(c, a),
+        Writable::Iie => with_iie(c, a / 2 % 1024 * 2),
+        Writable::Pid => with_pid(c, a),
+        Writable::Pie => with_pie(c, a),
+    }
+}
+
+// MCL clears the bits that are set in A.
+pub fn cleared(c: Core, r: Maskable) -> Core
+    ensures { λ d. ⌜ d ≡ cleared c r ⌝ }
+{
+    let f = c.file;
+    let k = c.control;
+    let a = 65535 - f.get(Register::A);
+    match r {
+        Maskable::Status => with_sts(c, f.get(Register::Sts) & a),
+        Maskable::Pid => with_pid(c, k.pid & a),
+        Maskable::Pie => with_pie(c, k.pie & a),
+    }
+}
+
+// MST sets them.
+pub fn masked(c: Core, r: Maskable) -> Core
+    ensures { λ d. ⌜ d ≡ masked c r ⌝ }
+{
+    let f = c.file;
+    let k = c.control;
+    let a = f.get(Register::A);
+    match r {
+        Maskable::Status => with_sts(c, f.get(Register::Sts) | a),
+        Maskable::Pid => with_pid(c, k.pid | a),
+        Maskable::Pie => with_pie(c, k.pie | a),
+    }
+}

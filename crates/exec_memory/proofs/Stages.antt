@@ -1,0 +1,412 @@
+-- The stages as the machine's own definition has them: an unprivileged instruction, and the fetch.
+-- Assumes nothing.
+use Prim.Native.Nat.{ℕ, _<_, _≤_}
+use native.Mathlib.Omega.{arith}
+use mathlib.Core.Path.{_≡_, refl, ap, sym, _∙_, subst}
+use mathlib.Core.Bool.{Bool, true, false, cond, not}
+use mathlib.Core.List.{List, [], _∷_}
+use lib.IntN.{ℤ}
+use lib.ListN.{getD, length}
+use lib.Dec.{ltb, eqb}
+use borrow.Author.Tests.{ltb-false, leb-true, not-false}
+use mir.Syntax.{w16}
+use mir.Val.{SFits, toZ, ofZ}
+use mir.ValLaws.{toZ-ofZ}
+use types.Run.{OneOf, miss}
+use denote.Enum.Declared.{tagOf}
+use Rattle.isa.proofs.instruction.User.{the-type}
+use Rattle.isa.proofs.Tests.{either, decided}
+use Rattle.isa.specs.Machine.{reg, next, nextCore, withFile, ringOf}
+use Rattle.isa.specs.Address.{access, firstRule, firstAddress, addressRule, indirectAccess, effectiveAddress}
+use Rattle.isa.specs.Address.{byteAddress}
+use Rattle.isa.specs.Instructions.{Completed, indirectRequest, request, complete, memoryRequest, memoryCompletion}
+use Rattle.isa.specs.Pages.{Entry, entryAt, slotOf, somePermit, needed, ringAllows, physical, withinMemory, judged}
+use Rattle.isa.specs.Pages.{inWindow, translate, Tested, testAll, wordsAt, wordAt, rightsOf, passes, lowered}
+use Rattle.isa.specs.Pages.{loweredPcr}
+use Rattle.isa.specs.Step.{Part, finished, operands, operandsTested, indirectTested, userStage, failed, afterFetch}
+use Rattle.isa.specs.declared.access.Access.{Access}
+use Rattle.isa.specs.declared.access.Kind.the-variants.{Fetch, Indirect}
+use Rattle.isa.specs.declared.access.Rights.{Rights}
+use Rattle.isa.specs.declared.access.Translation.{Translation}
+use Rattle.isa.specs.declared.access.Translation.the-variants.{NoAccess, Load, Store, LoadTable, StoreTable}
+use Rattle.isa.specs.declared.access.Translation.the-variants.{Protection, PageFault, OutOfRange}
+use Rattle.isa.specs.declared.instruction.MemoryOp.{MemoryOp}
+use Rattle.isa.specs.declared.instruction.Mode.{Mode}
+use Rattle.isa.specs.declared.instruction.User.{User}
+use Rattle.isa.specs.declared.instruction.User.the-variants.{Memory, Jump, Skip, Logic, RegisterAdd, NoOperation}
+use Rattle.isa.specs.declared.instruction.User.the-variants.{Shift, SetArgument, AddArgument, Bit, LoadByte}
+use Rattle.isa.specs.declared.instruction.User.the-variants.{StoreByte, Mix3, Multiply, Divide}
+use Rattle.isa.specs.declared.machine.Control.{Control}
+use Rattle.isa.specs.declared.machine.Core.{Core}
+use Rattle.isa.specs.declared.machine.File.{File}
+use Rattle.isa.specs.declared.machine.Register.the-variants.{P}
+use Rattle.exec_register.specs.Completion.{registerCompletion}
+use Rattle.exec_register.proofs.Laws.{register-completion}
+use Rattle.exec_address.specs.Addresses.{firstAt, hasIndirect, afterIndirect}
+use Rattle.exec_address.specs.Requests.{requestOf, completionOf}
+use Rattle.exec_address.specs.declared.request.Request.{Request}
+use Rattle.exec_address.specs.declared.request.Request.the-variants.{Read, Update}
+use Rattle.exec_address.specs.declared.request.Change.the-variants.{PutByte}
+use Rattle.exec_address.specs.declared.request.Reading.the-variants.{Byte}
+use Rattle.exec_address.proofs.Laws.{first-address, indirect-access, effective-address}
+use Rattle.paging.proofs.Outcomes.{Found, found-passed, found-failed, found-within, fails-other, done}
+use Rattle.paging.proofs.Levels.{same-ring}
+use Rattle.paging.specs.Levels.{levelRights}
+use Rattle.paging.specs.Outcome.{Outcome}
+use Rattle.operand_words.specs.declared.operand.Operand.{Operand}
+use Rattle.event.specs.Events.{eventPart, endingOf, endedPart}
+use Rattle.event.specs.declared.Ending.{Ending}
+use Rattle.event.specs.declared.Event.{Event}
+use Rattle.event.specs.declared.Event.the-variants.{Fine, Error, Failed as Faulted}
+use Rattle.exec_memory.specs.Served.{Executing, accessesOf, accessedBy, requested, Served}
+use Rattle.exec_memory.proofs.RequestLaws.{request-serves}
+use Rattle.exec_memory.specs.Stages.{ExecutingAt, ByIndirect, Addressed, UserStage, byteOperand, addressed}
+use Rattle.exec_memory.specs.Stages.{afterIndirectWord, coreOf, ringFrom, ringAfter}
+use Rattle.exec_memory.specs.declared.address.Effective.{Effective}
+use Rattle.exec_memory.specs.declared.address.Effective.the-variants.{At, Failed}
+
+-- ---- a request
+
+-- the request q is that of the instruction u with the indirect word i
+requested-is :
+    (c : Core) (m t : List ℕ) (u : User) (i : ℕ) (q : Request) (alternate : Bool) (a : ℕ)
+    → accessesOf q alternate a ≡ request u (c .file) i
+    → ((ws : List ℕ) → completionOf q (next (c .file)) a ws ≡ complete u (c .file) i ws)
+    → requested c m t q alternate a ≡ operands c m t u i
+unfolding operands operandsTested accessedBy
+requested-is c m t u i q alternate a e h =
+    ap (λ (xs : List Access). accessedBy c m (completionOf q (next (c .file)) a) (testAll t (length m) (rightsOf c) xs))
+    e
+    ∙ go (testAll t (length m) (rightsOf c) (request u (c .file) i))
+  where
+    go : (r : Tested) → accessedBy c m (completionOf q (next (c .file)) a) r ≡ operandsTested c m u i r
+    go r = rw (h (wordsAt m (r .tables) (r .places))) refl
+
+-- ---- the indirect word
+
+-- the access for it passed, or failed
+word-passed :
+    (c : Core) (m : List ℕ) (o : MemoryOp) (md : Mode) (k : Tested) (x : Translation) (v : List ℕ) (b : Bool) (e : ℕ)
+    → v ≡ k .tables → x ∷ [] ≡ k .places → NoAccess ≡ k .fault → b ≡ addressRule md
+    → e ≡ afterIndirect md (next (c .file)) (wordAt m v x)
+    → addressed c m v o (At b e) ≡ afterIndirectWord c m o md k
+unfolding addressed afterIndirectWord
+word-passed c m o md k x v b e t p n q h = simp (q, h, t, ← p, ← n)
+
+word-failed :
+    (c : Core) (m : List ℕ) (o : MemoryOp) (md : Mode) (k : Tested) (x : Translation) (v : List ℕ)
+    → v ≡ k .tables → x ≡ k .fault → passes x ≡ false → addressed c m v o (Failed x) ≡ afterIndirectWord c m o md k
+unfolding addressed afterIndirectWord
+word-failed c m o md k x v t n h = simp (ap passes (sym n) ∙ h, t, n)
+
+module _ (g : File) (m : List ℕ) (md : Mode) {t : List ℕ} {r : Rights} {b : Bool} {a : ℕ} {x : Translation} {n : ℕ}
+    {v : List ℕ} (q : b ≡ firstRule md) (f : Found t (length m) r (access Indirect b a) x n v) where
+  -- in a core that executes the instruction
+  judged-in : (c : Core) (o : MemoryOp) → Executing c g r
+      → afterIndirectWord c m o md (testAll t (length m) r (access Indirect b a ∷ []))
+      ≡ afterIndirectWord c m o md (testAll t (length m) (rightsOf c) (access Indirect (firstRule md) a ∷ []))
+  judged-in c o s =
+      ap (λ (h : Rights). afterIndirectWord c m o md (testAll t (length m) h (access Indirect b a ∷ [])))
+      (sym (s .rights))
+      ∙ ap (λ (h : Bool). afterIndirectWord c m o md (testAll t (length m) (rightsOf c) (access Indirect h a ∷ []))) q
+
+  pub indirect-passed : (i : Bool) (e : ℕ) → n ≡ 0 → i ≡ addressRule md → e ≡ afterIndirect md g (wordAt m v x)
+      → ByIndirect g r md a m t (At i e) v
+  indirect-passed i e z j h c o s =
+      let k : Outcome t (length m) r [] (access Indirect b a ∷ []) (x ∷ []) NoAccess v =
+      found-passed f z (done (found-within f, tt)) in
+      let w : e ≡ afterIndirect md (next (c .file)) (wordAt m v x) =
+      h ∙ ap (λ (y : File). afterIndirect md y (wordAt m v x)) (sym (s .file)) in
+      word-passed c m o md _ x v i e (k .tables) (k .passed refl) (k .failed) j w ∙ judged-in c o s
+
+  pub indirect-failed : (n ≡ 0 → ⊥) → ByIndirect g r md a m t (Failed x) v
+  indirect-failed z c o s =
+      let k : Outcome t (length m) r [] (access Indirect b a ∷ []) [] x v = found-failed f z tt in
+      word-failed c m o md _ x v (k .tables) (k .failed) (fails-other x (f .fault) z) ∙ judged-in c o s
+
+-- ---- the effective address
+
+address-at : {c : Core} {f : File} {a : ℕ} {r : Rights} (md : Mode) (d : ℤ)
+    → ExecutingAt c f a r → firstAt md d f a ≡ firstAddress md d (c .file)
+address-at {c} {a = a} md d s =
+    ap (λ (g : File). firstAt md d g a) (sym (s .executing .file))
+    ∙ ap (λ (b : ℕ). firstAt md d (next (c .file)) b) (sym (s .address))
+    ∙ first-address md d (c .file)
+
+-- the first address, of a displacement that came through 16 bits
+pub first-is : (md : Mode) {d : ℤ} (g : File) (a : ℕ) {x : ℕ} → SFits w16 d → x ≡ firstAt md (toZ w16 (ofZ w16 d)) g a
+    → x ≡ firstAt md d g a
+first-is md {d} g a f e = e ∙ ap (λ (z : ℤ). firstAt md z g a) (toZ-ofZ w16 d f)
+
+-- a memory operation with the effective address e
+at-address :
+    (c : Core) (m t : List ℕ) (o : MemoryOp) (md : Mode) (d : ℤ) (i e : ℕ) → e ≡ effectiveAddress md d (c .file) i
+    → requested c m t (requestOf o (next (c .file))) (addressRule md) e ≡ operands c m t (Memory o md d) i
+at-address c m t o md d i e h =
+    let g = next (c .file) in
+    let serves = request-serves o g (addressRule md) e in
+    requested-is c m t (Memory o md d) i (requestOf o g) (addressRule md) e
+    (serves [] .0 ∙ ap (memoryRequest o (addressRule md)) h)
+    (λ ws. serves ws .1 ∙ ap (λ (a : ℕ). memoryCompletion o g a ws) h)
+
+-- a mode with an indirect word
+after-word :
+    (c : Core) (m : List ℕ) (o : MemoryOp) (md : Mode) (d : ℤ) (k : Tested) → hasIndirect md ≡ true
+    → afterIndirectWord c m o md k ≡ indirectTested c m (Memory o md d) k
+unfolding indirectTested afterIndirectWord
+after-word c m o md d k h =
+    let i = getD (wordsAt m (k .tables) (k .places)) 0 0 in
+    ap (λ (p : Part). cond (passes (k .fault)) p (failed (nextCore c) (k .fault) m (k .tables)))
+    (at-address c m (k .tables) o md d i (afterIndirect md (next (c .file)) i)
+    (sym (simp h at (effective-address md d (c .file) i))))
+
+indirect-stage :
+    (c : Core) (m t : List ℕ) (o : MemoryOp) (md : Mode) (d : ℤ) → hasIndirect md ≡ true
+    → afterIndirectWord c m o md
+    (testAll t (length m) (rightsOf c) (access Indirect (firstRule md) (firstAddress md d (c .file)) ∷ []))
+    ≡ userStage c m t (Memory o md d)
+unfolding userStage
+indirect-stage c m t o md d h =
+    let one : List Access = access Indirect (firstRule md) (firstAddress md d (c .file)) ∷ [] in
+    let q : indirectAccess md d (c .file) ≡ one = indirect-access md d (c .file) ∙ ap (λ (b : Bool). cond b one []) h in
+    after-word c m o md d (testAll t (length m) (rightsOf c) one) h
+    ∙ ap (λ (xs : List Access). indirectTested c m (Memory o md d) (testAll t (length m) (rightsOf c) xs)) (sym q)
+
+-- an instruction without an indirect word
+no-indirect : (c : Core) (m t : List ℕ) (u : User) → indirectRequest u (c .file) ≡ []
+    → operands c m t u 0 ≡ userStage c m t u
+unfolding userStage indirectTested
+no-indirect c m t u h = simp h
+
+direct-stage :
+    (c : Core) (m t : List ℕ) (o : MemoryOp) (md : Mode) (d : ℤ) → hasIndirect md ≡ false
+    → requested c m t (requestOf o (next (c .file))) (addressRule md) (firstAddress md d (c .file))
+    ≡ userStage c m t (Memory o md d)
+direct-stage c m t o md d h =
+    at-address c m t o md d 0 (firstAddress md d (c .file)) (sym (simp h at (effective-address md d (c .file) 0)))
+    ∙ no-indirect c m t (Memory o md d) (simp h at (indirect-access md d (c .file)))
+
+-- what the code found of either in the file g, with the first address x
+module _ (g : File) (m t : List ℕ) (a : ℕ) (r : Rights) (md : Mode) (d : ℤ) (x : ℕ) (p : x ≡ firstAt md d g a) where
+  pub addressed-indirect : (e : Effective) (v : List ℕ) → hasIndirect md ≡ true → ByIndirect g r md x m t e v
+      → Addressed g a r md d m t e v
+  addressed-indirect e v h f c o s =
+      f c o (s .executing)
+      ∙ ap
+      (λ (y : ℕ). afterIndirectWord c m o md
+      (testAll t (length m) (rightsOf c) (access Indirect (firstRule md) y ∷ [])))
+      (p ∙ address-at md d s)
+      ∙ indirect-stage c m t o md d h
+
+  pub addressed-direct : (b : Bool) → hasIndirect md ≡ false → b ≡ addressRule md → Addressed g a r md d m t (At b x) t
+  unfolding addressed
+  addressed-direct b h q c o s =
+      ap (λ (y : Bool). requested c m t (requestOf o (next (c .file))) y x) q
+      ∙ ap (requested c m t (requestOf o (next (c .file))) (addressRule md)) (p ∙ address-at md d s)
+      ∙ direct-stage c m t o md d h
+
+-- LBYT and SBYT, whose address P has no part in
+module _ (g : File) (m t : List ℕ) (at : ℕ) (r : Rights) {x : Operand} (p : x ≡ byteOperand r g) (z : Ending)
+    (m′ t′ : List ℕ) {u : User} where
+  byte-served : (v : User) (q : Request) → u ≡ v
+      → ((f : File) → accessesOf q true (byteAddress f) ≡ request v f 0)
+      → ((f : File) (vs : List ℕ) → completionOf q (next f) (byteAddress f) vs ≡ complete v f 0 vs)
+      → ((f : File) → indirectRequest v f ≡ []) → Served g q x m t z m′ t′ → UserStage g at r u m t z m′ t′
+  byte-served v q e i h n f l c s =
+      let b = c .file in
+      subst (λ (y : Operand). Served g q y m t z m′ t′) p f l c (s .executing)
+      ∙ ap (λ (y : File). requested c m t q true (byteAddress y)) (sym (s .executing .file))
+      ∙ requested-is c m t v 0 q true (byteAddress b) (i b) (h b)
+      ∙ no-indirect c m t v (n b)
+      ∙ ap (userStage c m t) (sym e)
+
+  pub byte-read : u ≡ LoadByte → Served g (Read Byte) x m t z m′ t′ → UserStage g at r u m t z m′ t′
+  byte-read e = byte-served LoadByte (Read Byte) e (λ f. refl) (λ f vs. refl) (λ f. refl)
+
+  pub byte-put : u ≡ StoreByte → Served g (Update PutByte) x m t z m′ t′ → UserStage g at r u m t z m′ t′
+  byte-put e = byte-served StoreByte (Update PutByte) e (λ f. refl) (λ f vs. refl) (λ f. refl)
+
+-- the numbers of the variants of an unprivileged instruction but for one
+abbrev notMemory : List ℕ
+notMemory = 1 ∷ 2 ∷ 3 ∷ 4 ∷ 5 ∷ 6 ∷ 7 ∷ 8 ∷ 9 ∷ 10 ∷ 11 ∷ 12 ∷ 13 ∷ 14 ∷ []
+
+abbrev notLoadByte : List ℕ
+notLoadByte = 0 ∷ 1 ∷ 2 ∷ 3 ∷ 4 ∷ 5 ∷ 6 ∷ 7 ∷ 8 ∷ 9 ∷ 11 ∷ 12 ∷ 13 ∷ 14 ∷ []
+
+abbrev notStoreByte : List ℕ
+notStoreByte = 0 ∷ 1 ∷ 2 ∷ 3 ∷ 4 ∷ 5 ∷ 6 ∷ 7 ∷ 8 ∷ 9 ∷ 10 ∷ 12 ∷ 13 ∷ 14 ∷ []
+
+-- an instruction that is none of the three makes no access
+module _ (c : Core) (m t : List ℕ) where
+  registers-alone : (u : User) → OneOf notMemory (tagOf the-type u) → OneOf notLoadByte (tagOf the-type u)
+      → OneOf notStoreByte (tagOf the-type u)
+      → finished c m t [] (registerCompletion u (next (c .file)) (reg (c .file) P)) ≡ userStage c m t u
+  unfolding userStage indirectTested operands operandsTested
+  registers-alone (Memory o md d) h i j = absurd (miss notMemory 0 tt h)
+  registers-alone (Jump k d) h i j = refl
+  registers-alone (Skip q s d) h i j = refl
+  registers-alone (Logic o cld cm1 s d) h i j = refl
+  registers-alone (RegisterAdd k cld cm1 s d) h i j =
+      ap (finished c m t []) (register-completion (RegisterAdd k cld cm1 s d) (c .file) 0 [] tt)
+  registers-alone NoOperation h i j = refl
+  registers-alone (Shift k q n) h i j = refl
+  registers-alone (SetArgument q n) h i j = refl
+  registers-alone (AddArgument q n) h i j =
+      ap (finished c m t []) (register-completion (AddArgument q n) (c .file) 0 [] tt)
+  registers-alone (Bit o n q) h i j = refl
+  registers-alone LoadByte h i j = absurd (miss notLoadByte 10 tt i)
+  registers-alone StoreByte h i j = absurd (miss notStoreByte 11 tt j)
+  registers-alone Mix3 h i j = refl
+  registers-alone (Multiply s d) h i j = refl
+  registers-alone (Divide s) h i j = refl
+
+-- ---- an ending
+
+-- the file is left as it is
+pub file-left : {c : Core} {f : File} {r : Rights} (l : ℕ) (m t : List ℕ) {z : Ending} {e : Event} → Executing c f r
+    → z ≡ record { file = f; event = e } → endedPart l c z m t ≡ eventPart l (nextCore c) m t e
+file-left {c} l m t {e = e} s q =
+    ap (λ (y : Ending). endedPart l c y m t) q ∙ ap (λ (g : File). eventPart l (withFile c g) m t e) (sym (s .file))
+
+-- an instruction that stores nothing ends with the error interrupt or well
+completed-part : (l : ℕ) (c : Core) (m t : List ℕ) (d : Completed)
+    → endedPart l c (endingOf d) m t ≡ finished c m t [] d
+unfolding eventPart finished
+completed-part l c m t d = go (d .error)
+  where
+    go : (b : Bool) → eventPart l (withFile c (d .file)) m t (cond b Error Fine)
+        ≡ finished c m t [] (record { file = d .file; stores = d .stores; error = b })
+    go true = refl
+    go false = refl
+
+-- what the code found of an instruction that works on the registers alone
+pub register-served : (f : File) (m t : List ℕ) (a : ℕ) (r : Rights) (u : User) (z : Ending)
+    → OneOf notMemory (tagOf the-type u) → OneOf notLoadByte (tagOf the-type u) → OneOf notStoreByte (tagOf the-type u)
+    → z ≡ endingOf (registerCompletion u f a) → UserStage f a r u m t z m t
+register-served f m t a r u z h i j q l c s =
+    ap (λ (y : Ending). endedPart l c y m t) q
+    ∙ completed-part l c m t (registerCompletion u f a)
+    ∙ ap (λ (y : File). finished c m t [] (registerCompletion u y a)) (sym (s .executing .file))
+    ∙ ap (λ (y : ℕ). finished c m t [] (registerCompletion u (next (c .file)) y)) (sym (s .address))
+    ∙ registers-alone c m t u h i j
+
+-- a memory operation at its effective address, or where the access for the indirect word failed
+module _ (f : File) (m t : List ℕ) (a : ℕ) (r : Rights) (o : MemoryOp) (md : Mode) (d : ℤ) (e : Effective) (v : List ℕ)
+    (h : Addressed f a r md d m t e v) (z : Ending) where
+  pub memory-at : (b : Bool) (x : ℕ) (m′ t′ : List ℕ) {q : Request} → e ≡ At b x → q ≡ requestOf o f
+      → Served f q (record { rights = r; alternate = b; address = x }) m v z m′ t′
+      → UserStage f a r (Memory o md d) m t z m′ t′
+  unfolding addressed
+  memory-at b x m′ t′ i p k l c s =
+      k l c (s .executing)
+      ∙ ap (λ (q : Request). requested c m v q b x) (p ∙ ap (requestOf o) (sym (s .executing .file)))
+      ∙ ap (addressed c m v o) (sym i)
+      ∙ h c o s
+
+  pub memory-failed : (x : Translation) → e ≡ Failed x → z ≡ record { file = f; event = Faulted x }
+      → UserStage f a r (Memory o md d) m t z m v
+  unfolding addressed eventPart
+  memory-failed x q n l c s = file-left l m v (s .executing) n ∙ ap (addressed c m v o) (sym q) ∙ h c o s
+
+-- ---- the fetch
+
+-- a place in memory to load from was found by way of an entry of a ring that is not above the user's
+abbrev RingBelow : ℕ → ℕ → Translation → Type 0
+RingBelow ring old NoAccess = Unit {0}
+RingBelow ring old (Load p) = ring ≤ old
+RingBelow ring old (Store p) = Unit {0}
+RingBelow ring old (LoadTable i) = Unit {0}
+RingBelow ring old (StoreTable i) = Unit {0}
+RingBelow ring old (Protection g) = Unit {0}
+RingBelow ring old (PageFault g) = Unit {0}
+RingBelow ring old OutOfRange = Unit {0}
+
+within-below : {ring old : ℕ} → ring ≤ old → (words p : ℕ) → RingBelow ring old (withinMemory words Fetch p)
+unfolding withinMemory
+within-below h words p = either (RingBelow _ _) (ltb p words) h tt
+
+judged-below : (e : Entry) (slot words old a : ℕ) → RingBelow (e .ring) old (judged e slot words old Fetch a)
+unfolding judged
+judged-below e slot words old a =
+    let P = RingBelow (e .ring) old in
+    either P (not (somePermit e)) tt
+    (either P (not (needed e Fetch)) tt
+    (decided P (not (ringAllows e old)) (λ n. tt)
+    (λ n. within-below (leb-true (e .ring) old (not-false (ringAllows e old) n)) words (physical e a))))
+
+-- so a passed fetch with paging on
+fetch-below : (t : List ℕ) (words : ℕ) (r : Rights) (a : ℕ) → r .paging ≡ true
+    → RingBelow (entryAt t (slotOf (r .normal) a) .ring) (r .ring) (translate t words r (access Fetch false a))
+unfolding translate
+fetch-below t words r a h =
+    let i = slotOf (r .normal) a in
+    let P = RingBelow (entryAt t i .ring) (r .ring) in
+    either P (inWindow r a) tt
+    (subst (λ (b : Bool). P (cond b (judged (entryAt t i) i words (r .ring) Fetch a) (withinMemory words Fetch a)))
+    (sym h)
+    (judged-below (entryAt t i) i words (r .ring) a))
+
+-- the PCR after a fetch from memory with paging on
+lowered-ring : (f : File) (p : ℕ) (k : Control) (ring : ℕ) → ring ≤ ringOf p
+    → lowered (coreOf f p k) ring ≡ coreOf f (loweredPcr p ring) k
+unfolding lowered
+lowered-ring f p k ring h =
+    decided (λ (c : Core). c ≡ coreOf f (loweredPcr p ring) k) (ltb ring (ringOf p)) (λ q. refl) same
+  where
+    same : ltb ring (ringOf p) ≡ false → coreOf f p k ≡ coreOf f (loweredPcr p ring) k
+    same q =
+        let e : p ≡ loweredPcr p ring = omega (arith, h, ltb-false ring (ringOf p) q) in
+        ap (λ (y : ℕ). coreOf f y k) e
+
+-- what the code makes of the ring is what the definition makes of the PCR
+pub ring-is : (f : File) (p : ℕ) (k : Control) (t : List ℕ) (words a : ℕ) {r : Rights} {x : Translation} {ring : ℕ}
+    → levelRights p (k .paging) ≡ r → x ≡ translate t words r (access Fetch false a)
+    → ring ≡ entryAt t (slotOf (r .normal) a) .ring
+    → afterFetch (coreOf f p k) ring x ≡ coreOf f (loweredPcr p (ringAfter r ring x)) k
+ring-is f p k t words a {r} {x} {ring} e q h =
+    subst
+    (λ (y : Rights). afterFetch (coreOf f p k) ring x ≡ coreOf f (loweredPcr p (ringAfter y ring x)) k)
+    e
+    (go (eqb (k .paging) 1) refl x below)
+  where
+    below : eqb (k .paging) 1 ≡ true → RingBelow ring (ringOf p) x
+    below z =
+        subst (λ (y : Rights). RingBelow ring (y .ring) x) (sym e)
+        (rw (q, h) (fetch-below t words r a (ap (λ (y : Rights). y .paging) (sym e) ∙ z)))
+
+    own : (b : Bool) → coreOf f p k ≡ coreOf f (loweredPcr p (cond b (ringOf p) (ringOf p))) k
+    own b = either (λ (y : ℕ). coreOf f p k ≡ coreOf f (loweredPcr p y) k) b same same
+      where
+        same : coreOf f p k ≡ coreOf f (loweredPcr p (ringOf p)) k
+        same = ap (λ (y : ℕ). coreOf f y k) (sym (same-ring p))
+
+    go : (b : Bool) → eqb (k .paging) 1 ≡ b → (y : Translation)
+        → (eqb (k .paging) 1 ≡ true → RingBelow ring (ringOf p) y)
+        → afterFetch (coreOf f p k) ring y ≡ coreOf f (loweredPcr p (ringAfter (levelRights p (k .paging)) ring y)) k
+    go b z NoAccess n = own (eqb (k .paging) 1)
+    go true z (Load i) n = rw z (lowered-ring f p k ring (n z))
+    go false z (Load i) n = rw z (own false)
+    go b z (Store i) n = own (eqb (k .paging) 1)
+    go b z (LoadTable i) n = own (eqb (k .paging) 1)
+    go b z (StoreTable i) n = own (eqb (k .paging) 1)
+    go b z (Protection i) n = own (eqb (k .paging) 1)
+    go b z (PageFault i) n = own (eqb (k .paging) 1)
+    go b z OutOfRange n = own (eqb (k .paging) 1)
+
+-- two bits hold the ring after a fetch
+pub ring-small : (t : List ℕ) (a : ℕ) (r : Rights) (x : Translation) {ring : ℕ} → r .ring < 4
+    → ring ≡ entryAt t (slotOf (r .normal) a) .ring → ringAfter r ring x < 4
+ring-small t a r x {ring} h e = either (λ (n : ℕ). n < 4) (r .paging) (go x) h
+  where
+    entry : ring < 4
+    entry = rw e (omega arith)
+
+    go : (y : Translation) → ringFrom (r .ring) ring y < 4
+    go NoAccess = h
+    go (Load i) = entry
+    go (Store i) = h
+    go (LoadTable i) = h
+    go (StoreTable i) = h
+    go (Protection i) = h
+    go (PageFault i) = h
+    go OutOfRange = h

@@ -1,0 +1,152 @@
+-- One access fails, or all pass and the words are stored or read.
+-- Assumes nothing.
+use mathlib.Core.Path.{ap, _∙_}
+use Rattle.isa.specs.Instructions.{loads}
+use Rattle.isa.specs.Pages.{wordsAt, storeAll}
+use Rattle.isa.specs.declared.machine.File.{File}
+use Rattle.exec_address.specs.Requests.{wordsLoaded}
+use Rattle.operand_words.specs.Accesses.{placesOf}
+use Rattle.exec_address.specs.declared.request.Request.the-variants.{Several}
+use Rattle.paging.proofs.Outcomes.{passes-zero, fails-other}
+use Rattle.exec_memory.proofs.RequestLaws.{loaded-three, renamed, several-stored, several-loaded, several-read}
+use Rattle.exec_memory.proofs.RequestLaws.{three-stored, reads, stores, fails}
+use borrow.Author.Needs.{needs}
+use Rattle.exec_memory.proofs.several.words.Statement.{statement}
+use Rattle.exec_memory.proofs.several.words.Tie as tie
+
+kind-of-requires : tie.Need-kind-of-requires
+kind-of-requires c κs = search needs
+
+several-requires : tie.Need-several-requires
+several-requires c κs = search needs
+
+fault-in-requires : tie.Need-fault-in-requires
+fault-in-requires c κs = search needs
+
+fault-of-requires : tie.Need-fault-of-requires
+fault-of-requires c κs = search needs
+
+with-event-requires : tie.Need-with-event-requires
+with-event-requires c κs = search needs
+
+same-length : tie.Need-same-length
+same-length c = search needs
+
+returns : tie.Need-returns
+returns c =
+    -- an access failed
+    let found = c .before .before .before in
+    let tested = found .before .before .before in
+    let lent = tested .before .before .before .before in
+    let start = lent .before in
+    let a = start .args in
+    let x = found .fault-in in
+    let o = renamed (a .n) (tested .before .kind-of .ensures) (x .ensures) (tested .several .ensures) in
+    let failed = fails-other (x .result) (c .before .before .fault-of .ensures) (c .before .if1 .taken) in
+    fails (a .f) (a .mem .now) (Several (a .store) (a .n)) (a .x) o failed (c .with-event .ensures)
+
+stored-more-requires : tie.Need-stored-more-requires
+stored-more-requires c κs = search needs
+
+store-all-requires : tie.Need-store-all-requires
+store-all-requires c κs =
+    let passed = c .before .before .before .before in
+    let found = passed .before .before in
+    let tested = found .before .before .before in
+    let lent = tested .before .before .before .before in
+    let start = lent .before in
+    (tested .several .ensures .within, tested .several .kept .0 ∙ start .pre .1)
+
+fine-requires : tie.Need-fine-requires
+fine-requires c κs = search needs
+
+same-length-2 : tie.Need-same-length-2
+same-length-2 c = search needs
+
+same-length-3 : tie.Need-same-length-3
+same-length-3 c = search needs
+
+returns-2 : tie.Need-returns-2
+returns-2 c =
+    -- the words are stored
+    let left = c .before .before .before .before in
+    let stored = left .before in
+    let store = stored .before .before .before .before in
+    let passed = store .before in
+    let found = passed .before .before in
+    let tested = found .before .before .before in
+    let lent = tested .before .before .before .before in
+    let start = lent .before in
+    let a = start .args in
+    let x = found .fault-in in
+    let m = a .mem .now in
+    let u = tested .several .last .0 in
+    let ps = placesOf (tested .several .result) in
+    let o = renamed (a .n) (tested .before .kind-of .ensures) (x .ensures) (tested .several .ensures) in
+    let z = passes-zero (x .result) (passed .before .fault-of .ensures) (passed .if1 .left) in
+    stores (a .f) m (Several (a .store) (a .n)) (a .x) o z (c .fine .ensures)
+    (several-stored (a .n) (store .if2 .taken) (a .f) (a .x .address) (wordsAt m u ps))
+    (stored .store-all .ensures ∙ ap (storeAll m u ps) (stored .before .stored-more .ensures)
+    ∙ three-stored m u ps (a .n) (a .f))
+
+read-all-requires : tie.Need-read-all-requires
+read-all-requires c κs = search needs
+
+loaded-more-requires : tie.Need-loaded-more-requires
+loaded-more-requires c κs = search needs
+
+fine-requires-2 : tie.Need-fine-requires-2
+fine-requires-2 c κs = search needs
+
+same-length-4 : tie.Need-same-length-4
+same-length-4 c = search needs
+
+same-length-5 : tie.Need-same-length-5
+same-length-5 c = search needs
+
+returns-3 : tie.Need-returns-3
+returns-3 c =
+    -- the words are read
+    let lent-words = c .before .before .before .before in
+    let read = lent-words .before in
+    let passed = read .before in
+    let found = passed .before .before in
+    let tested = found .before .before .before in
+    let lent = tested .before .before .before .before in
+    let start = lent .before in
+    let a = start .args in
+    let x = found .fault-in in
+    let m = a .mem .now in
+    let u = tested .several .last .0 in
+    let vs = wordsAt m u (placesOf (tested .several .result)) in
+    let o = renamed (a .n) (tested .before .kind-of .ensures) (x .ensures) (tested .several .ensures) in
+    let z = passes-zero (x .result) (passed .before .fault-of .ensures) (passed .if1 .left) in
+    let loaded = c .before .loaded-more .ensures ∙ ap (wordsLoaded (a .n) (a .f)) (c .before .before .read-all .ensures)
+    ∙ loaded-three m u (tested .several .result) (a .n) (a .f) in
+    reads (a .f) m (Several (a .store) (a .n)) (a .x) o z (c .fine2 .ensures)
+    (several-read (a .n) (read .if2 .left) (a .x .alternate) (a .x .address))
+    (ap loads loaded ∙ several-loaded (a .n) (read .if2 .left) (a .f) (a .x .address) vs)
+
+pub words-spec : {M : Type 1} → statement M
+words-spec =
+    tie.close
+    (tie.spec
+    kind-of-requires
+    several-requires
+    fault-in-requires
+    fault-of-requires
+    with-event-requires
+    same-length
+    returns
+    stored-more-requires
+    store-all-requires
+    fine-requires
+    same-length-2
+    same-length-3
+    returns-2
+    read-all-requires
+    loaded-more-requires
+    fine-requires-2
+    same-length-4
+    same-length-5
+    returns-3)

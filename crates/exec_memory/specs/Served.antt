@@ -1,0 +1,67 @@
+-- A request at an operand, by what the code has in hand: the registers with P one further, and the rights.
+use Prim.Native.Nat.{ℕ}
+use mathlib.Core.Path.{_≡_}
+use mathlib.Core.Bool.{Bool, cond}
+use mathlib.Core.List.{List, []}
+use lib.ListN.{length}
+use Rattle.isa.specs.Machine.{next, nextCore}
+use Rattle.isa.specs.Instructions.{Completed, oneWord, readAndWrite}
+use Rattle.isa.specs.Pages.{Tested, testAll, passes, wordsAt, rightsOf}
+use Rattle.isa.specs.Step.{Part, failed, finished}
+use Rattle.isa.specs.declared.access.Access.{Access}
+use Rattle.isa.specs.declared.access.Kind.{Kind}
+use Rattle.isa.specs.declared.access.Kind.the-variants as kinds
+use Rattle.isa.specs.declared.access.Rights.{Rights}
+use Rattle.isa.specs.declared.machine.Core.{Core}
+use Rattle.isa.specs.declared.machine.File.{File}
+use Rattle.exec_address.specs.Requests.{completionOf, changeOf}
+use Rattle.exec_address.specs.declared.request.Request.{Request}
+use Rattle.exec_address.specs.declared.request.Request.the-variants.{Jump, Link, Read, Write, Several, Update}
+use Rattle.exec_address.specs.declared.request.Change.{Change}
+use Rattle.operand_words.specs.Accesses.{severalWords}
+use Rattle.operand_words.specs.declared.operand.Operand.{Operand}
+use Rattle.event.specs.Events.{endedPart}
+use Rattle.event.specs.declared.Ending.{Ending}
+use Rattle.event.specs.declared.Event.the-variants.{Fine, Failed}
+use Rattle.exec_memory.specs.declared.update.Exchanged.{Exchanged}
+
+-- c executes an instruction: its file with P one further is f, and its accesses are judged by r
+pub record Executing (c : Core) (f : File) (r : Rights) : Type 0 where
+  pub file : next (c .file) ≡ f
+  pub rights : rightsOf c ≡ r
+
+-- two or three words are written, or read
+abbrev pub severalKind : Bool → Kind
+severalKind store = cond store kinds.Write kinds.Read
+
+-- the accesses that a request stands for at the address a, by the alternate rule or not
+abbrev pub accessesOf : Request → Bool → ℕ → List Access
+accessesOf Jump alternate a = []
+accessesOf Link alternate a = []
+accessesOf (Read k) alternate a = oneWord kinds.Read alternate a
+accessesOf (Write w) alternate a = oneWord kinds.Write alternate a
+accessesOf (Several store n) alternate a = severalWords (severalKind store) alternate a n
+accessesOf (Update k) alternate a = readAndWrite alternate a
+
+-- accesses were tested; k completes by the words read
+unfoldable pub accessedBy : Core → List ℕ → (List ℕ → Completed) → Tested → Part
+accessedBy c m k r =
+    cond (passes (r .fault)) (finished c m (r .tables) (r .places) (k (wordsAt m (r .tables) (r .places))))
+    (failed (nextCore c) (r .fault) m (r .tables))
+
+-- a request at the address a
+abbrev pub requested : Core → List ℕ → List ℕ → Request → Bool → ℕ → Part
+requested c m t q alternate a =
+    accessedBy c m (completionOf q (next (c .file)) a) (testAll t (length m) (rightsOf c) (accessesOf q alternate a))
+
+-- the ending e is what is answered for a request in every core that executes it
+abbrev pub Served : File → Request → Operand → List ℕ → List ℕ → Ending → List ℕ → List ℕ → Type 0
+Served f q x m t e m' t' =
+    (l : ℕ) (c : Core) → Executing c f (x .rights)
+    → endedPart l c e m' t' ≡ requested c m t q (x .alternate) (x .address)
+
+-- the end of a change of a word: the instruction goes on, or an access failed
+abbrev pub afterExchange : File → Change → Exchanged → Ending
+afterExchange f k x =
+    cond (passes (x .fault)) (record { file = changeOf k f (x .word) .file; event = Fine })
+    (record { file = f; event = Failed (x .fault) })

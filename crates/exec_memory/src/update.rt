@@ -1,0 +1,85 @@
+// MIN and SBYT: a word is read, and another written in its place.
+ghost use Rattle.isa.specs.Machine.{tableWords};
+ghost use mathlib.Core.Path.{_≡_};
+ghost use Prim.Native.Nat.{_<_};
+ghost use lib.ListN.{length};
+ghost use Rattle.exec_address.specs.declared.request.Request.the-variants.{Update};
+ghost use Rattle.exec_address.specs.declared.request.Change.the-variants.{PutByte};
+ghost use Rattle.exec_memory.specs.Served.{Served, afterExchange};
+use event::Ending;
+use event::Event;
+use event::fine;
+use event::with_event;
+use exec_address::change::after_change;
+use exec_address::change::changed;
+use exec_address::request::Change;
+use isa::access::Kind;
+use isa::access::Translation;
+use isa::machine::File;
+use operand_words::operand::Operand;
+use paging::place::fault_of;
+use paging::place::store_at;
+use paging::place::word_at;
+use paging::translation::translate;
+
+// The word that was read, or the first access that failed.
+pub struct Exchanged {
+    pub word: u16,
+    pub fault: Translation,
+}
+
+// Both accesses are tested, and the changed word is stored.
+fn exchange(f: File, mem: &mut [u16], tables: &mut [u16], x: Operand, k: Change) -> Exchanged
+    requires { ⌜ (x .rights .normal < 4) × (x .rights .alternate < 4) ⌝ }
+    requires { ⌜ length (now tables) ≡ tableWords ⌝ }
+    ensures { λ e. ⌜ Served f (Update k) x (now (mem .entry)) (now (tables .entry)) (afterExchange f k e)
+        (now (mem .exit)) (now (tables .exit)) ⌝ }
+{
+    let r = x.rights;
+    let from = translate(tables, mem.len(), r, Kind::Read, x.alternate, x.address);
+    if fault_of(from) != 0 {
+        return Exchanged {
+            word: 0,
+            fault: from,
+        };
+    }
+    let to = translate(tables, mem.len(), r, Kind::Write, x.alternate, x.address);
+    if fault_of(to) != 0 {
+        return Exchanged { word: 0, fault: to };
+    }
+    let w = word_at(mem, tables, from);
+    store_at(mem, tables, to, changed(k, f, w));
+    Exchanged {
+        word: w,
+        fault: Translation::NoAccess,
+    }
+}
+
+pub(crate) fn update(f: File, mem: &mut [u16], tables: &mut [u16], x: Operand, k: Change) -> Ending
+    requires { ⌜ (x .rights .normal < 4) × (x .rights .alternate < 4) ⌝ }
+    requires { ⌜ length (now tables) ≡ tableWords ⌝ }
+    ensures { λ e. ⌜ Served f (Update k) x (now (mem .entry)) (now (tables .entry)) e (now (mem .exit))
+        (now (tables .exit)) ⌝ }
+{
+    let e = exchange(f, mem, tables, x, k);
+    let a = e.fault;
+    if fault_of(a) != 0 {
+        return with_event(f, Event::Failed(a));
+    }
+    fine(after_change(k, f, e.word))
+}
+
+// SBYT, which is not served as MIN is: a function with one caller is compiled into it.
+pub fn put_byte(f: File, mem: &mut [u16], tables: &mut [u16], x: Operand) -> Ending
+    requires { ⌜ (x .rights .normal < 4) × (x .rights .alternate < 4) ⌝ }
+    requires { ⌜ length (now tables) ≡ tableWords ⌝ }
+    ensures { λ e. ⌜ Served f (Update PutByte) x (now (mem .entry)) (now (tables .entry)) e (now (mem .exit))
+        (now (tables .exit)) ⌝ }
+{
+    let e = exchange(f, mem, tables, x, Change::PutByte);
+    let a = e.fault;
+    if fault_of(a) != 0 {
+        return with_event(f, Event::Failed(a));
+    }
+    fine(f)
+}

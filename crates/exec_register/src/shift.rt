@@ -1,0 +1,55 @@
+// Shifts.
+ghost use mathlib.Core.Path.{_≡_};
+ghost use Rattle.isa.specs.Instructions.{shiftIn, shiftDouble, shifted};
+ghost use Rattle.exec_register.specs.Completion.{shiftRegister};
+use crate::calculation;
+use crate::operand;
+use isa::instruction::ShiftKind;
+use isa::instruction::ShiftTarget;
+use isa::machine::File;
+use isa::machine::Register;
+
+// One register.
+fn shift_in(f: File, r: Register, k: ShiftKind, n: i16) -> File
+    ensures { λ g. ⌜ g ≡ shiftIn f r k n ⌝ }
+{
+    let sts = f.get(Register::Sts);
+    let s = arithmetic::shift::shift16(k, n, f.get(r), arithmetic::bits::bit(7, sts));
+    f.with(Register::Sts, arithmetic::bits::with_bit(7, s.m, sts))
+        .with(r, s.value as u16)
+}
+
+// A and D as one double word.
+fn shift_double(f: File, k: ShiftKind, n: i16) -> File
+    ensures { λ g. ⌜ g ≡ shiftDouble f k n ⌝ }
+{
+    let sts = f.get(Register::Sts);
+    let s = arithmetic::shift::shift32(k, n, calculation::double(f), arithmetic::bits::bit(7, sts));
+    let flagged = f.with(Register::Sts, arithmetic::bits::with_bit(7, s.m, sts));
+    flagged
+        .with(Register::A, (s.value / 65536) as u16)
+        .with(Register::D, (s.value % 65536) as u16)
+}
+
+// The register of a shift of one word; STS stands for A and D.
+fn shift_register(t: ShiftTarget) -> Register
+    ensures { λ r. ⌜ r ≡ shiftRegister t ⌝ }
+{
+    match t {
+        ShiftTarget::Sht => Register::T,
+        ShiftTarget::Shd => Register::D,
+        ShiftTarget::Sha => Register::A,
+        ShiftTarget::Sad => Register::Sts,
+    }
+}
+
+// One place calls shift_in, so that it is compiled into it.
+pub fn shifted(f: File, t: ShiftTarget, k: ShiftKind, n: i16) -> File
+    ensures { λ g. ⌜ g ≡ shifted f t k n ⌝ }
+{
+    let r = shift_register(t);
+    if operand::is_zero(r) {
+        return shift_double(f, k, n);
+    }
+    shift_in(f, r, k, n)
+}

@@ -1,3 +1,0 @@
--- What the functions answer to, beside the definitions of the machine.
-pub mod Effects
-pub mod Completion

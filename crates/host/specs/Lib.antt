@@ -1,2 +1,0 @@
--- The host's calls.
-pub mod Calls

@@ -1,0 +1,116 @@
+// The bodies of an image, put into the words of a kind.
+ghost use mathlib.Core.Path.{_≡_};
+ghost use mathlib.Core.Bool.{cond};
+ghost use Prim.Native.Nat.{_+_, _≤_};
+ghost use lib.ListN.{length, getD, take, drop};
+ghost use lib.Seq.{paste};
+ghost use lib.Dec.{eqb};
+ghost use Rattle.isa.specs.Machine.{stateOf};
+ghost use Rattle.isa.specs.Images.{contents, bodies, placed, loadedWords, loadedState};
+ghost use Rattle.image_load.specs.Placing.{Placeable};
+use image_directory::entry::Span;
+use image_directory::entry::entry_at;
+use image_directory::entry::entry_count;
+use image_directory::entry::wide;
+use isa::machine::Control;
+use isa::machine::State;
+use words::clear;
+use words::copy;
+
+// An entry's body, which starts at word `at`, if it is of the kind.
+fn place_one(kind: u16, e: Span, image: &[u16], at: usize, target: &mut [u16])
+    requires { ⌜ at + e .count ≤ length (now image) ⌝ }
+    requires { ⌜ (e .kind ≡ kind → e .start + e .count ≤ length (now target)) ⌝ }
+    ensures { λ _. ⌜ now (target .exit)
+        ≡ cond (eqb (e .kind) kind) (paste (now (target .entry)) (e .start) (drop at (now (image .entry))) (e .count))
+        (now (target .entry)) ⌝ }
+{
+    if e.kind != kind {
+        return;
+    }
+    let start = wide(e.start);
+    let n = wide(e.count);
+    copy(target, start, image, at, n);
+}
+
+// The bodies of all n entries that are of the kind.
+fn place(kind: u16, image: &[u16], n: usize, target: &mut [u16])
+    requires { ⌜ n ≡ getD (now image) 0 0 ⌝ }
+    requires { ⌜ Placeable kind (length (now target)) (now image) ⌝ }
+    ensures { λ _. ⌜ now (target .exit)
+        ≡ placed kind (contents (now (image .entry))) (bodies (now (image .entry))) (now (target .entry)) ⌝ }
+{
+    let mut k = 0;
+    let mut at = 1 + n * 5;
+    while k < n {
+        let e = entry_at(image, k);
+        place_one(kind, e, image, at, target);
+        at += wide(e.count);
+        k += 1;
+    }
+}
+
+// All words of a kind: those not named are 0.
+pub fn fill(kind: u16, image: &[u16], target: &mut [u16])
+    requires { ⌜ Placeable kind (length (now target)) (now image) ⌝ }
+    ensures { λ _. ⌜ now (target .exit) ≡ loadedWords kind (length (now (target .entry))) (now (image .entry)) ⌝ }
+{
+    let n = entry_count(image);
+    clear(target);
+    place(kind, image, n, target);
+}
+
+// Registers and control words in image order.
+pub type RegisterWords = [u16; 128];
+
+pub type ControlWords = [u16; 26];
+
+// The state of registers and control words in image order.
+pub fn state_of(regs: RegisterWords, words: ControlWords) -> State
+    ensures { λ s. ⌜ s ≡ stateOf regs words ⌝ }
+{
+    let mut pcrs = [0u16; 16];
+    copy(&mut pcrs, 0, &words, 10, 16);
+    let c = Control {
+        interrupts: words[1],
+        paging: words[2],
+        stopped: words[3],
+        pid: words[4],
+        pie: words[5],
+        pvl: words[6],
+        iid: words[7],
+        iie: words[8],
+        pgs: words[9],
+    };
+    State {
+        regs: regs,
+        level: words[0],
+        control: c,
+        pcr: pcrs,
+    }
+}
+
+// The state of 154 words in image order: the registers, then the control words.
+pub fn state_in(words: &[u16]) -> State
+    requires { ⌜ length (now words) ≡ 154 ⌝ }
+    ensures { λ s. ⌜ s ≡ stateOf (take 128 (now (words .entry))) (drop 128 (now (words .entry))) ⌝ }
+{
+    let mut regs = [0u16; 128];
+    let mut control = [0u16; 26];
+    copy(&mut regs, 0, words, 0, 128);
+    copy(&mut control, 0, words, 128, 26);
+    state_of(regs, control)
+}
+
+// The state that an image has.
+pub fn loaded_state(image: &[u16]) -> State
+    requires { ⌜ Placeable 2 128 (now image) ⌝ }
+    requires { ⌜ Placeable 3 26 (now image) ⌝ }
+    ensures { λ s. ⌜ s ≡ loadedState (now (image .entry)) ⌝ }
+{
+    let mut regs = [0u16; 128];
+    let mut words = [0u16; 26];
+    fill(2, image, &mut regs);
+    fill(3, image, &mut words);
+    state_of(regs, words)
+}

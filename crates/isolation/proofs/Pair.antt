@@ -1,0 +1,52 @@
+-- What the theorem says of the worked pair, from every address P and for any number of steps.
+-- Assumes nothing.
+use Prim.Native.Nat.{ℕ, _+_, _-_, _/_, _<_, _≤_}
+use mathlib.Core.Path.{_≡_, refl, sym, subst, _∙_}
+use mathlib.Core.Bool.{true, false}
+use mathlib.Core.List.{List, _∷_, _++_}
+use native.Mathlib.Omega.{arith}
+use native.Mathlib.Decide.{decLt}
+use lib.ListN.{getD, replicate, length, List·getD-append, List·getD-eq-default}
+use lib.Dec.{lit≤}
+use Rattle.isa.specs.Isolation.{inEither, reachable}
+use Rattle.isa.specs.Answers.{runCall}
+use Rattle.isa.proofs.Tests.{no-both}
+use Rattle.isolation.specs.Statement.{Starts, Isolated}
+use Rattle.isolation.specs.Example.{own, left, right, tables, start}
+use Rattle.isolation.proofs.Theorem.{isolation}
+
+-- page 2 is not permitted
+foreign : (p : ℕ) → reachable (start p) tables 2 ≡ false
+unfolding inEither
+foreign p = refl
+
+-- two memories that begin alike are equal below the first word of page 2, and past the third page
+begin-same : (xs ys zs : List ℕ) (k : ℕ) → k < length xs → getD (xs ++ ys) k 0 ≡ getD (xs ++ zs) k 0
+begin-same xs ys zs k l = List·getD-append xs ys 0 k l ∙ sym (List·getD-append xs zs 0 k l)
+
+pub pair-alike : (p : ℕ) → Starts (start p) tables left right
+pair-alike p = record {
+  paging-on = refl;
+  ring-low = lit≤ tt;
+  alike = record { size = refl; same = λ k q. go k q (decLt k 2048) (decLt k 3072) };
+}
+  where
+    go : (k : ℕ) → reachable (start p) tables (k / 1024) ≡ true → Dec (k < 2048) → Dec (k < 3072)
+        → getD left k 0 ≡ getD right k 0
+    go k q (yes l) d =
+        begin-same own (0o111111 ∷ 0o000001 ∷ replicate 1022 0) (0o022222 ∷ 0o000002 ∷ replicate 1022 0) k l
+    go k q (no l) (yes u) =
+        absurd (no-both (sym (foreign p) ∙ subst (λ (x : ℕ). reachable (start p) tables x ≡ true) page q))
+      where
+        page : k / 1024 ≡ 2
+        page = omega arith
+    go k q (no l) (no u) =
+        List·getD-eq-default left 0 (beyond u) ∙ sym (List·getD-eq-default right 0 (beyond u))
+      where
+        beyond : (k < 3072 → ⊥) → 3072 ≤ k
+        beyond n = omega arith
+
+pub pair-isolated : (c p : ℕ)
+    → Isolated (start p) tables left right (runCall true c (start p) left tables)
+    (runCall true c (start p) right tables)
+pair-isolated c p = isolation c (start p) tables left right (pair-alike p)

@@ -1,0 +1,106 @@
+-- A worked pair: a regulator on level 1, ring 1, beside a page that is not its own. docs/ISOLATION.md tells it in
+-- prose.
+use Prim.Native.Nat.{ℕ, _+_}
+use mathlib.Core.Path.{_≡_, refl}
+use mathlib.Core.Bool.{true, false}
+use mathlib.Core.List.{List, [], _∷_, _++_}
+use lib.ListN.{getD, replicate}
+use Rattle.isa.specs.Machine.{fileAt, putFile, inRange, sizesFit}
+use Rattle.isa.specs.Flags.{adder, withOverflow, withSum, productOverflow, divisionFails, leftOnce, rightOnce}
+use Rattle.isa.specs.Decode.{byCode, byNumber, decode, traOf, trrOf, maskedOf, switchOf, srbOf, lrbOf, shiftOf}
+use Rattle.isa.specs.Address.{firstAddress}
+use Rattle.isa.specs.Instructions.{divided}
+use Rattle.isa.specs.Pages.{withinMemory, judged, inWindow, translate, marked, lowered}
+use Rattle.isa.specs.Step.{step, interrupted, faulted, finished, operandsTested, operands, indirectTested, userStage}
+use Rattle.isa.specs.Step.{examined, deposited, instructionStage, fetched, stepIn, putOther, blockStored, blockLoaded}
+use Rattle.isa.specs.Step.{farStage, settled, changeDue, levelChanged}
+use Rattle.isa.specs.Answers.{RunCall, runCall, stateAnswer, stepsTaken}
+use Rattle.isa.specs.Isolation.{inEither, reachable, writable}
+use Rattle.isa.specs.Cases.{quiet, given, stated}
+use Rattle.isa.specs.declared.machine.State.{State}
+
+-- Physical page 0 holds four small programs. Each begins at its address with BSET ONE SSPTM, so that PTM is 1 whatever
+-- it was, takes the word that B points to, adds one, gives it back, and then tries the foreign page, where X points:
+-- 000: LDA ,X by the alternate table; 010: STA ,X by the alternate table; 020: the same after BSET ZRO SSPTM, so by the
+-- normal table, LDA;
+-- 030: by the normal table, STA.
+abbrev pub programs : List ℕ
+programs =
+    0o174200 ∷ 0o044400 ∷ 0o172401 ∷ 0o004400 ∷ 0o046000 ∷ 0 ∷ 0 ∷ 0
+    ∷ 0o174200 ∷ 0o044400 ∷ 0o172401 ∷ 0o004400 ∷ 0o006000 ∷ 0 ∷ 0 ∷ 0
+    ∷ 0o174200 ∷ 0o044400 ∷ 0o172401 ∷ 0o004400 ∷ 0o174000 ∷ 0o046000 ∷ 0 ∷ 0
+    ∷ 0o174200 ∷ 0o044400 ∷ 0o172401 ∷ 0o004400 ∷ 0o174000 ∷ 0o006000 ∷ 0 ∷ 0
+    ∷ []
+
+-- Physical page 1 holds the message, 000007; physical page 2 is foreign. The two memories differ there in two words.
+abbrev pub own : List ℕ
+own = programs ++ (replicate 992 0 ++ (0o000007 ∷ replicate 1023 0))
+
+abbrev pub left : List ℕ
+left = own ++ (0o111111 ∷ 0o000001 ∷ replicate 1022 0)
+
+abbrev pub right : List ℕ
+right = own ++ (0o022222 ∷ 0o000002 ∷ replicate 1022 0)
+
+-- Normal table 0: virtual page 0 is the program's (fetch and read, ring 1), page 2 names physical page 2 for ring 3.
+-- Alternate table 1: virtual page 1 is the message's (read and write, ring 1), page 2 names physical page 2 with no
+-- permit at all.
+abbrev pub tables : List ℕ
+tables = 0o061000 ∷ 0 ∷ 0o163002 ∷ (replicate 61 0 ++ (0 ∷ 0o141001 ∷ 0o000002 ∷ replicate 189 0))
+
+-- Level 1 with P as given, B at virtual page 1, X at virtual page 2; paging on; PCR: ring 1, alternate table 1, normal
+-- table 0.
+abbrev pub start : ℕ → State
+start p = record {
+  regs = replicate 8 0 ++ (0 ∷ 0 ∷ p ∷ 0o002000 ∷ 0 ∷ 0 ∷ 0 ∷ 0o004000 ∷ replicate 112 0);
+  level = 1;
+  control = quiet 1;
+  pcr = 0 ∷ 0o201 ∷ replicate 14 0;
+}
+
+-- What is looked at after a run: steps taken, A, P and STS of level 1, IID, PGS, the message, and the two foreign
+-- words.
+abbrev pub seen : RunCall → List ℕ
+seen r =
+    stepsTaken (r .answer)
+    ∷ getD (r .state .regs) 13 0
+    ∷ getD (r .state .regs) 10 0
+    ∷ getD (r .state .regs) 8 0
+    ∷ r .state .control .iid
+    ∷ r .state .control .pgs
+    ∷ getD (r .memory) 1024 0
+    ∷ getD (r .memory) 2048 0
+    ∷ getD (r .memory) 2049 0
+    ∷ []
+
+abbrev pub run : ℕ → List ℕ → RunCall
+run p m = runCall true 100 (start p) m tables
+
+-- By the alternate table an entry without permits gives interrupt 3 (IID 000010), PGS 040000 + table 1, page 2; by the
+-- normal table ring 3 gives interrupt 2 (IID 000004), PGS table 0, page 2. The message is 000010 in every run; the
+-- foreign words are as they were.
+unfoldable pub pair : List (List ℕ × List ℕ)
+pair =
+    (seen (run 0o00 left), 5 ∷ 8 ∷ 5 ∷ 1 ∷ 8 ∷ 0o040102 ∷ 8 ∷ 0o111111 ∷ 1 ∷ [])
+    ∷ (seen (run 0o00 right), 5 ∷ 8 ∷ 5 ∷ 1 ∷ 8 ∷ 0o040102 ∷ 8 ∷ 0o022222 ∷ 2 ∷ [])
+    ∷ (seen (run 0o10 left), 5 ∷ 8 ∷ 13 ∷ 1 ∷ 8 ∷ 0o040102 ∷ 8 ∷ 0o111111 ∷ 1 ∷ [])
+    ∷ (seen (run 0o10 right), 5 ∷ 8 ∷ 13 ∷ 1 ∷ 8 ∷ 0o040102 ∷ 8 ∷ 0o022222 ∷ 2 ∷ [])
+    ∷ (seen (run 0o20 left), 6 ∷ 8 ∷ 22 ∷ 0 ∷ 4 ∷ 0o000002 ∷ 8 ∷ 0o111111 ∷ 1 ∷ [])
+    ∷ (seen (run 0o20 right), 6 ∷ 8 ∷ 22 ∷ 0 ∷ 4 ∷ 0o000002 ∷ 8 ∷ 0o022222 ∷ 2 ∷ [])
+    ∷ (seen (run 0o30 left), 6 ∷ 8 ∷ 30 ∷ 0 ∷ 4 ∷ 0o000002 ∷ 8 ∷ 0o111111 ∷ 1 ∷ [])
+    ∷ (seen (run 0o30 right), 6 ∷ 8 ∷ 30 ∷ 0 ∷ 4 ∷ 0o000002 ∷ 8 ∷ 0o022222 ∷ 2 ∷ [])
+    ∷ []
+
+pub pair-holds : given pair ≡ stated pair
+unfolding pair runCall stateAnswer sizesFit inRange fileAt putFile adder withOverflow withSum productOverflow
+    divisionFails leftOnce rightOnce byCode byNumber decode traOf trrOf maskedOf switchOf srbOf lrbOf shiftOf
+    firstAddress divided withinMemory judged inWindow translate marked lowered step interrupted faulted finished
+    operandsTested operands indirectTested userStage examined deposited instructionStage fetched stepIn putOther
+    blockStored blockLoaded farStage settled changeDue levelChanged
+pair-holds = refl
+
+-- the pages that are permitted to the start, for reading and for writing
+pub pages-hold : reachable (start 0) tables 0 ∷ reachable (start 0) tables 1 ∷ reachable (start 0) tables 2
+    ∷ writable (start 0) tables 0 ∷ writable (start 0) tables 1 ∷ [] ≡ true ∷ true ∷ false ∷ false ∷ true ∷ []
+unfolding inEither
+pages-hold = refl

@@ -1,0 +1,86 @@
+-- The words come from memory when all accesses passed; else the fault is the running level's.
+-- Assumes nothing.
+use mathlib.Core.Path.{refl, _∙_}
+use Rattle.isa.specs.Machine.{pack}
+use Rattle.isa.specs.declared.access.Kind.the-variants.{Read}
+use Rattle.level_effects.proofs.Laws.{block-from-memory, not-moved}
+use borrow.Author.Needs.{needs}
+use Rattle.level_effects.proofs.block.block_loaded.Statement.{statement}
+use Rattle.level_effects.proofs.block.block_loaded.Tie as tie
+
+tested-requires : tie.Need-tested-requires
+tested-requires c κs = search needs
+
+fault-of-requires : tie.Need-fault-of-requires
+fault-of-requires c κs = search needs
+
+read-block-requires : tie.Need-read-block-requires
+read-block-requires c κs = search needs
+
+put-block-requires : tie.Need-put-block-requires
+put-block-requires c κs = search needs
+
+-- the registers' number is kept
+reloaded-requires : tie.Need-reloaded-requires
+reloaded-requires c κs =
+    let put = c .before .before .before in
+    let judged = put .before .before .before .before in
+    let lent = judged .before .before .before in
+    let asked = lent .before .before .before in
+    let entered = asked .before .before .before in
+    let start = entered .before .before .before in
+    (start .pre .0, put .put-block .kept .1 .0 ∙ asked .tested .kept .1 .1 .0 ∙ start .pre .1 .0)
+
+same-length : tie.Need-same-length
+same-length c = search needs
+
+same-length-2 : tie.Need-same-length-2
+same-length-2 c = search needs
+
+-- all accesses passed
+returns : tie.Need-returns
+returns c =
+    let put = c .before .before .before .before in
+    let judged = put .before .before .before .before in
+    let lent = judged .before .before .before in
+    let asked = lent .before .before .before in
+    let entered = asked .before .before .before in
+    let a = entered .before .before .before .args in
+    λ p q. block-from-memory _ _ Read _ _ _ (asked .tested .ensures) p q
+    (judged .before .fault-of .ensures) (judged .if1 .taken) _ (put .before .read-block .ensures)
+    (c .reloaded .ensures (a .regs .now) p ∙ put .put-block .ensures (pack (a .level) (a .c) (a .regs .now) p) refl)
+
+block-failed-requires : tie.Need-block-failed-requires
+block-failed-requires c κs = search needs
+
+same-length-3 : tie.Need-same-length-3
+same-length-3 c = search needs
+
+same-length-4 : tie.Need-same-length-4
+same-length-4 c = search needs
+
+-- one failed
+returns-2 : tie.Need-returns-2
+returns-2 c =
+    let judged = c .before in
+    let lent = judged .before .before .before in
+    let asked = lent .before .before .before in
+    λ p q. not-moved _ _ Read _ _ _ (asked .tested .ensures) p q (judged .before .fault-of .ensures)
+    (judged .if1 .left) _ (c .block-failed .ensures) .1
+
+pub block-loaded-spec : {M : Type 1} → statement M
+block-loaded-spec =
+    tie.close
+    (tie.spec
+    tested-requires
+    fault-of-requires
+    read-block-requires
+    put-block-requires
+    reloaded-requires
+    same-length
+    same-length-2
+    returns
+    block-failed-requires
+    same-length-3
+    same-length-4
+    returns-2)

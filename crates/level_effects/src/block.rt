@@ -1,0 +1,166 @@
+// Register blocks: SRB and LRB.
+ghost use Rattle.isa.specs.Machine.{levelCount, registerWords, tableWords};
+ghost use mathlib.Core.Path.{_≡_};
+ghost use mathlib.Core.Bool.{cond};
+ghost use mathlib.Core.List.{List};
+ghost use Prim.Native.Nat.{ℕ, _<_};
+ghost use lib.ListN.{length};
+ghost use Rattle.isa.specs.Machine.{reg, pack};
+ghost use Rattle.isa.specs.Pages.{faultOf};
+ghost use Rattle.isa.specs.Step.{faulted, withRegs, blockOrder, blockWords, putBlock, blockTested, blockStored};
+ghost use Rattle.isa.specs.Step.{blockLoaded};
+ghost use Rattle.isa.specs.declared.access.Kind.the-variants.{Read, Write};
+ghost use Rattle.isa.specs.declared.machine.Register.the-variants.{P};
+ghost use Rattle.isa.specs.declared.machine.State.{State};
+ghost use Rattle.operand_words.specs.Blocks.{listOf};
+ghost use Rattle.level_effects.specs.Blocks.{BlockTest, withBlock};
+ghost use Rattle.level_effects.specs.Settled.{leaving, turnOf};
+use crate::settle::Settled;
+use isa::access::Kind;
+use isa::access::Translation;
+use isa::machine::Core;
+use isa::machine::File;
+use isa::machine::Register;
+use levels::file_at;
+use levels::put_file;
+use levels::registers::reloaded;
+use operand_words::block::Block;
+use operand_words::block::BlockWords;
+use operand_words::block_test::test_block;
+use operand_words::block_words::read_block;
+use operand_words::block_words::store_block;
+use paging::place::fault_of;
+use paging::rights::rights;
+use trap::faulted;
+
+// The running level's registers are put back, and the accesses of the block from the address in X on are tested.
+fn tested(level: u16, c: Core, regs: &mut [u16], words: usize, tables: &mut [u16], k: Kind) -> Block
+    requires { ⌜ level < 16 ⌝ }
+    requires { ⌜ length (now regs) ≡ registerWords ⌝ }
+    requires { ⌜ length (now tables) ≡ tableWords ⌝ }
+    ensures { λ b. ⌜ BlockTest level c k (now (regs .entry)) words (now (tables .entry)) b (now (regs .exit))
+        (now (tables .exit)) ⌝ }
+{
+    let f = c.file;
+    put_file(regs, level, f);
+    let w = c.control;
+    let r = rights(f.get(Register::Sts), c.pcr, w.paging);
+    test_block(tables, words, r, k, f.get(Register::X))
+}
+
+// The registers of a level, in the block's order.
+fn block_words(regs: &[u16], l: u16) -> BlockWords
+    requires { ⌜ length (now regs) ≡ registerWords ⌝ }
+    ensures { λ w. ⌜ ((s : State) → listOf w ≡ blockWords (withRegs s (now (regs .entry))) l blockOrder) ⌝ }
+{
+    let f = file_at(regs, l % 16);
+    BlockWords {
+        p: f.get(Register::P),
+        x: f.get(Register::X),
+        t: f.get(Register::T),
+        a: f.get(Register::A),
+        d: f.get(Register::D),
+        l: f.get(Register::L),
+        sts: f.get(Register::Sts),
+        b: f.get(Register::B),
+    }
+}
+
+// What P takes of a block's word: P of the running level is left.
+fn loaded_p(f: File, own: bool, w: u16) -> u16
+    ensures { λ v. ⌜ v ≡ cond own (reg f P) w ⌝ }
+{
+    if own {
+        return f.get(Register::P);
+    }
+    w
+}
+
+// A level's file with a block's words in its registers; STS keeps bits 7-0 only.
+fn with_block(f: File, own: bool, w: BlockWords) -> File
+    ensures { λ g. ⌜ g ≡ withBlock own f blockOrder (listOf w) ⌝ }
+{
+    f.with(Register::P, loaded_p(f, own, w.p))
+        .with(Register::X, w.x)
+        .with(Register::T, w.t)
+        .with(Register::A, w.a)
+        .with(Register::D, w.d)
+        .with(Register::L, w.l)
+        .with(Register::Sts, w.sts % 256)
+        .with(Register::B, w.b)
+}
+
+// A block's words to the registers of a level.
+fn put_block(level: u16, regs: &mut [u16], l: u16, w: BlockWords)
+    requires { ⌜ length (now regs) ≡ registerWords ⌝ }
+    ensures { λ _. ⌜ ((s : State) → s .level ≡ level → withRegs s (now (regs .exit))
+        ≡ putBlock (withRegs s (now (regs .entry))) l blockOrder (listOf w)) ⌝ }
+{
+    let f = file_at(regs, l % 16);
+    put_file(regs, l % 16, with_block(f, l % 16 == level, w));
+}
+
+// An access of the block failed: the fault is the running level's.
+fn block_failed(x: Translation, c: Core) -> Settled
+    ensures { λ r. ⌜ r ≡ leaving (faulted x c) (faultOf x) ⌝ }
+{
+    Settled {
+        core: faulted(x, c),
+        gave: fault_of(x),
+    }
+}
+
+// SRB: the registers of a level to memory.
+pub fn block_stored(
+    level: u16,
+    c: Core,
+    regs: &mut [u16],
+    mem: &mut [u16],
+    tables: &mut [u16],
+    l: u16,
+) -> Settled
+    requires { ⌜ level < 16 ⌝ }
+    requires { ⌜ length (now regs) ≡ registerWords ⌝ }
+    requires { ⌜ length (now tables) ≡ tableWords ⌝ }
+    ensures { λ r. ⌜ ((p : List ℕ) → length p ≡ levelCount
+        → turnOf level r (now (regs .exit)) p (now (mem .exit)) (now (tables .exit))
+        ≡ blockStored (pack level c (now (regs .entry)) p) l (now (mem .entry))
+        (blockTested Write (pack level c (now (regs .entry)) p) (now (mem .entry)) (now (tables .entry)))) ⌝ }
+{
+    let b = tested(level, c, regs, mem.len(), tables, Kind::Write);
+    let x = b.fault;
+    if fault_of(x) == 0 {
+        store_block(mem, tables, b, block_words(regs, l));
+        return Settled { core: c, gave: 0 };
+    }
+    block_failed(x, c)
+}
+
+// LRB: the registers of a level from memory.
+pub fn block_loaded(
+    level: u16,
+    c: Core,
+    regs: &mut [u16],
+    mem: &[u16],
+    tables: &mut [u16],
+    l: u16,
+) -> Settled
+    requires { ⌜ level < 16 ⌝ }
+    requires { ⌜ length (now regs) ≡ registerWords ⌝ }
+    requires { ⌜ length (now tables) ≡ tableWords ⌝ }
+    ensures { λ r. ⌜ ((p : List ℕ) → length p ≡ levelCount
+        → turnOf level r (now (regs .exit)) p (now (mem .entry)) (now (tables .exit))
+        ≡ blockLoaded (pack level c (now (regs .entry)) p) l (now (mem .entry))
+        (blockTested Read (pack level c (now (regs .entry)) p) (now (mem .entry)) (now (tables .entry)))) ⌝ }
+{
+    let b = tested(level, c, regs, mem.len(), tables, Kind::Read);
+    let x = b.fault;
+    if fault_of(x) == 0 {
+        put_block(level, regs, l, read_block(mem, tables, b));
+        return Settled {
+            core: reloaded(level, c, regs),
+            gave: 0,
+        };
+    }
+    block_failed(x, c)
+}

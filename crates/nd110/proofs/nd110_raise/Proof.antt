@@ -1,0 +1,48 @@
+-- The level raised in the words' state, or a refusal.
+-- Assumes nothing.
+use mathlib.Core.List.{[]}
+use Rattle.isa.specs.Answers.{raiseCall}
+use Rattle.isa.specs.declared.machine.State.{State}
+use Rattle.nd110.specs.Calls.{raiseEnd}
+use Rattle.nd110.proofs.Laws.{called-well, called-badly}
+use borrow.Author.Needs.{needs}
+use Rattle.nd110.proofs.nd110_raise.Statement.{statement}
+use Rattle.nd110.proofs.nd110_raise.Tie as tie
+
+returns : tie.Need-returns
+returns c = called-badly _ _ _ _ _ (c .if1 .taken)
+
+state-in-requires : tie.Need-state-in-requires
+state-in-requires c κs = search needs
+
+raise-requires : tie.Need-raise-requires
+raise-requires c κs = search needs
+
+tell-answer-requires : tie.Need-tell-answer-requires
+tell-answer-requires c κs = search needs
+
+same-length : tie.Need-same-length
+same-length c = search needs
+
+returns-2 : tie.Need-returns-2
+returns-2 c =
+    let told = c .before .before in
+    let done = told .before .before .before in
+    let entered = done .before in
+    let a = entered .before .before .before .before .before .before .args in
+    let m = a .mem .now in
+    let t = a .tables .now in
+    called-well (λ (s : State). raiseCall s (a .level) m t) (raiseEnd (a .state .now) m t) (a .state .now) m t [] _ _ _
+    (entered .before .before .if1 .left) (entered .state-in .ensures) (done .raise .ensures .0)
+    (told .tell-answer .ensures _ _)
+
+pub nd110-raise-spec : {M : Type 1} → statement M
+nd110-raise-spec =
+    tie.close
+    (tie.spec
+    returns
+    state-in-requires
+    raise-requires
+    tell-answer-requires
+    same-length
+    returns-2)

@@ -1,0 +1,57 @@
+-- A step of the words' state, or a refusal.
+-- Assumes nothing.
+use mathlib.Core.List.{[], _∷_}
+use Rattle.isa.specs.Answers.{stepCall}
+use Rattle.isa.specs.declared.machine.State.{State}
+use Rattle.nd110.specs.Calls.{stepEnd}
+use Rattle.nd110.proofs.Laws.{called-well, called-badly}
+use borrow.Author.Needs.{needs}
+use Rattle.nd110.proofs.nd110_step.Statement.{statement}
+use Rattle.nd110.proofs.nd110_step.Tie as tie
+
+returns : tie.Need-returns
+returns c = called-badly _ _ _ _ _ (c .if1 .taken)
+
+state-in-requires : tie.Need-state-in-requires
+state-in-requires c κs = search needs
+
+step-requires : tie.Need-step-requires
+step-requires c κs = search needs
+
+tell-step-requires : tie.Need-tell-step-requires
+tell-step-requires c κs = search needs
+
+same-length : tie.Need-same-length
+same-length c = search needs
+
+same-length-2 : tie.Need-same-length-2
+same-length-2 c = search needs
+
+same-length-3 : tie.Need-same-length-3
+same-length-3 c = search needs
+
+returns-2 : tie.Need-returns-2
+returns-2 c =
+    let told = c .before .before in
+    let done = told .before .before .before .before .before .before .before in
+    let entered = done .before .before .before in
+    let a = entered .before .before .before .before .before .before .args in
+    let m = a .mem .now in
+    let t = a .tables .now in
+    let y = a .interrupt .now ∷ [] in
+    called-well (λ (s : State). stepCall s m t) (stepEnd (a .state .now) y) (a .state .now) m t y _ _ _
+    (entered .before .before .if1 .left) (entered .state-in .ensures) (done .step .ensures .0)
+    (told .tell-step .ensures _ _)
+
+pub nd110-step-spec : {M : Type 1} → statement M
+nd110-step-spec =
+    tie.close
+    (tie.spec
+    returns
+    state-in-requires
+    step-requires
+    tell-step-requires
+    same-length
+    same-length-2
+    same-length-3
+    returns-2)

@@ -1,0 +1,58 @@
+// Run through, and run to the first interrupt.
+ghost use mathlib.Core.Path.{_≡_};
+ghost use mathlib.Core.Bool.{true, false};
+ghost use Rattle.isa.specs.Answers.{runCall, runNumbers, runTold};
+ghost use Rattle.operations.specs.Calls.{runOf};
+use checks::state_answer;
+use isa::answer::Answer;
+use isa::answer::RunAnswer;
+use isa::machine::State;
+use run::run;
+
+// What a run answers, and the state that it leaves.
+pub struct Ran {
+    pub answer: RunAnswer,
+    pub state: State,
+}
+
+// Either run: at most n steps, to the first interrupt or through. Refusals 1 and 2.
+pub fn run_by(s: State, mem: &mut [u16], tables: &mut [u16], n: u64, first: bool) -> Ran
+    ensures { λ r. ⌜ runOf r (now (mem .exit)) (now (tables .exit))
+        ≡ runCall first n s (now (mem .entry)) (now (tables .entry)) ⌝ }
+    ensures { λ r. ⌜ runNumbers (r .answer) ≡ runTold first n s (now (mem .entry)) (now (tables .entry)) ⌝ }
+{
+    let a = state_answer(s, mem, tables);
+    match a {
+        Answer::Done => {
+            let r = run(s, mem, tables, n, first);
+            let after = r.state;
+            let reason = r.reason;
+            Ran {
+                answer: RunAnswer::Ran(r.steps, reason),
+                state: after,
+            }
+        }
+        Answer::Refused(x) => Ran {
+            answer: RunAnswer::Refused(x),
+            state: s,
+        },
+    }
+}
+
+// At most n steps, interrupts and changes of level included.
+pub fn through(s: State, mem: &mut [u16], tables: &mut [u16], n: u64) -> Ran
+    ensures { λ r. ⌜ runOf r (now (mem .exit)) (now (tables .exit))
+        ≡ runCall false n s (now (mem .entry)) (now (tables .entry)) ⌝ }
+    ensures { λ r. ⌜ runNumbers (r .answer) ≡ runTold false n s (now (mem .entry)) (now (tables .entry)) ⌝ }
+{
+    run_by(s, mem, tables, n, false)
+}
+
+// At most n steps, up to the first that gives an interrupt, or before a change of level.
+pub fn to_interrupt(s: State, mem: &mut [u16], tables: &mut [u16], n: u64) -> Ran
+    ensures { λ r. ⌜ runOf r (now (mem .exit)) (now (tables .exit))
+        ≡ runCall true n s (now (mem .entry)) (now (tables .entry)) ⌝ }
+    ensures { λ r. ⌜ runNumbers (r .answer) ≡ runTold true n s (now (mem .entry)) (now (tables .entry)) ⌝ }
+{
+    run_by(s, mem, tables, n, true)
+}

@@ -1,0 +1,24 @@
+-- What a level's accesses are judged by, in the parts that the code makes one after the other.
+use Prim.Native.Nat.{ℕ}
+use mathlib.Core.Bool.{cond}
+use lib.Dec.{eqb}
+use Rattle.isa.specs.Machine.{bit, flagPTM, ringOf, normalTableOf, alternateTableOf}
+use Rattle.isa.specs.declared.access.Rights.{Rights}
+
+-- by a PCR and the control word for paging, with PTM 1
+abbrev pub levelRights : ℕ → ℕ → Rights
+levelRights p paging =
+    record { paging = eqb paging 1; ring = ringOf p; normal = normalTableOf p; alternate = alternateTableOf p }
+
+-- with PTM of STS: "With PTM 0 all use the normal table."
+abbrev pub byFlags : Rights → ℕ → Rights
+byFlags r sts = record {
+  paging = r .paging;
+  ring = r .ring;
+  normal = r .normal;
+  alternate = cond (eqb (bit flagPTM sts) 1) (r .alternate) (r .normal);
+}
+
+-- on another ring
+abbrev pub onRing : Rights → ℕ → Rights
+onRing r ring = record { paging = r .paging; ring = ring; normal = r .normal; alternate = r .alternate }

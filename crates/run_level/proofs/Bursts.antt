@@ -1,0 +1,132 @@
+-- Quiet steps of the running level: a run goes on behind them as if each had been taken by itself.
+-- Assumes nothing.
+use Prim.Native.Nat.{ℕ, suc, _+_, _-_, _<_, _≤_}
+use mathlib.Core.Path.{_≡_, refl, sym, ap, subst, _∙_}
+use mathlib.Core.Bool.{Bool}
+use mathlib.Core.List.{List}
+use native.Mathlib.Omega.{arith}
+use Rattle.isa.specs.Machine.{pack}
+use Rattle.isa.specs.Pages.{loweredPcr}
+use Rattle.isa.specs.Step.{stepIn}
+use Rattle.isa.specs.Run.{runFrom}
+use Rattle.isa.specs.declared.access.Rights.{Rights}
+use Rattle.isa.specs.declared.machine.Control.{Control}
+use Rattle.isa.specs.declared.machine.Core.{Core}
+use Rattle.isa.specs.declared.machine.File.{File}
+use Rattle.event.specs.Events.{eventPart}
+use Rattle.event.specs.declared.Event.{Event}
+use Rattle.event.specs.declared.Event.the-variants.{Fine}
+use Rattle.paging.specs.Levels.{levelRights, onRing}
+use Rattle.paging.proofs.Levels.{ring-rights, ring-twice}
+use Rattle.exec_memory.specs.Stages.{coreOf}
+use Rattle.exec_step.specs.Steps.{StepOfLevel}
+use Rattle.exec_step.specs.declared.LevelStep.{LevelStep}
+use Rattle.run_level.specs.Bursts.{Levels, Executes, leaves, goesOn, QuietSteps, QuietStep}
+use Rattle.run_level.specs.declared.Burst.{Burst}
+use Rattle.run_level.proofs.Laws.{one-step, runs-on, goes-on, fine-leaves, no-change}
+
+-- the level's registers, PCR, memory and tables
+pub record Level : Type 0 where
+  pub file : File
+  pub pcr : ℕ
+  pub memory : List ℕ
+  pub tables : List ℕ
+
+-- one step of the level from a, by the paging switch g, ends at b with the event e
+abbrev pub Steps : ℕ → Level → Level → Event → Type 0
+Steps g a b e =
+    (l : ℕ) (k : Control) → k .paging ≡ g
+    → stepIn l (coreOf (a .file) (a .pcr) k) (a .memory) (a .tables)
+    ≡ eventPart l (coreOf (b .file) (b .pcr) k) (b .memory) (b .tables) e
+
+-- a run of n steps from a goes on at b, behind `before` of them
+abbrev pub Reaches : ℕ → ℕ → Level → ℕ → Level → Type 0
+Reaches g n a before b =
+    (first : Bool) (l j : ℕ) (k : Control) (regs pcrs : List ℕ) → k .paging ≡ g → Executes l k → Levels l regs pcrs
+    → runFrom first n j (pack l (coreOf (a .file) (a .pcr) k) regs pcrs) (a .memory) (a .tables)
+    ≡ runFrom first (n - before) (j + before) (pack l (coreOf (b .file) (b .pcr) k) regs pcrs) (b .memory) (b .tables)
+
+-- .. behind one more, which left something to be done
+abbrev pub Ends : ℕ → ℕ → Level → ℕ → Level → Event → Type 0
+Ends g n a before b e =
+    (first : Bool) (l j : ℕ) (k : Control) (regs pcrs : List ℕ) → k .paging ≡ g → Executes l k → Levels l regs pcrs
+    → runFrom first n j (pack l (coreOf (a .file) (a .pcr) k) regs pcrs) (a .memory) (a .tables)
+    ≡ goesOn first n j before
+    (leaves l regs pcrs (eventPart l (coreOf (b .file) (b .pcr) k) (b .memory) (b .tables) e))
+
+-- `before` quiet steps lead from a to b
+pub record Quiet (g n : ℕ) (a : Level) (before : ℕ) (b : Level) : Type 0 where
+  pub most : before ≤ n
+  pub reaches : Reaches g n a before b
+  pub none : before ≡ 0 → b ≡ a
+  pub one : before ≡ 1 → Steps g a b Fine
+
+-- none yet
+pub at-start : (g n : ℕ) (a : Level) → Quiet g n a 0 a
+at-start g n a = record {
+  most = omega arith;
+  reaches = λ first l j k regs pcrs p x v.
+      let e : j ≡ j + 0 = omega arith in
+      let d : n ≡ n - 0 = omega arith in
+      λ i. runFrom first (d i) (e i) (pack l (coreOf (a .file) (a .pcr) k) regs pcrs) (a .memory) (a .tables);
+  none = λ z. refl;
+  one = λ z. absurd (omega (arith, z));
+}
+
+-- all n of them
+module _ {g n : ℕ} {a b : Level} (q : Quiet g n a n b) (h : 0 < n) where
+  pub all-quiet : Ends g n a (n - 1) b Fine
+  all-quiet first l j k regs pcrs p x w =
+      let c : Core = coreOf (b .file) (b .pcr) k in
+      let e : n ≡ suc (n - 1) = omega (arith, h) in
+      q .reaches first l j k regs pcrs p x w
+      ∙ ap (λ (y : ℕ). runFrom first (n - y) (j + y) (pack l c regs pcrs) (b .memory) (b .tables)) e
+      ∙ sym (goes-on first n j (n - 1) (pack l c regs pcrs) (b .memory) (b .tables))
+      ∙ ap (goesOn first n j (n - 1)) (sym (fine-leaves l c regs pcrs (b .memory) (b .tables)))
+
+  pub the-only : n - 1 ≡ 0 → Steps g a b Fine
+  the-only z = q .one (omega (arith, z, h))
+
+module _ {g n : ℕ} {a b : Level} {before : ℕ} (q : Quiet g n a before b) (h : before < n) where
+  -- one step more
+  pub then-ends : (d : Level) (e : Event) → Steps g b d e → Ends g n a before d e
+  then-ends d e s first l j k regs pcrs p x w =
+      let c : Core = coreOf (b .file) (b .pcr) k in
+      q .reaches first l j k regs pcrs p x w
+      ∙ runs-on first n j before (pack l c regs pcrs) (b .memory) (b .tables) h (x .runs)
+      (no-change first (pack l c regs pcrs) (x .stays))
+      ∙ ap (goesOn first n j before)
+      (one-step l c regs pcrs (b .memory) (b .tables) x w ∙ ap (leaves l regs pcrs) (s l k p))
+
+  pub first-step : (d : Level) (e : Event) → Steps g b d e → before ≡ 0 → Steps g a d e
+  first-step d e s z = subst (λ (y : Level). Steps g y d e) (q .none z) s
+
+  pub then-quiet : (d : Level) → Steps g b d Fine → Quiet g n a (suc before) d
+  then-quiet d s = record {
+    most = h;
+    reaches = λ first l j k regs pcrs p x v.
+        let c : Core = coreOf (d .file) (d .pcr) k in
+        then-ends d Fine s first l j k regs pcrs p x v
+        ∙ ap (goesOn first n j before) (fine-leaves l c regs pcrs (d .memory) (d .tables))
+        ∙ goes-on first n j before (pack l c regs pcrs) (d .memory) (d .tables);
+    none = λ z. absurd (omega (arith, z));
+    one = λ z. first-step d Fine s (omega (arith, z));
+  }
+
+-- the level that began with the PCR p, on the ring that it has now
+abbrev pub levelOn : File → ℕ → ℕ → List ℕ → List ℕ → Level
+levelOn f p ring m t = record { file = f; pcr = loweredPcr p ring; memory = m; tables = t }
+
+-- what step_in answers, by the rights r of the level
+pub stepped : (g p ring : ℕ) (f : File) (m t : List ℕ) {r : Rights} (s : LevelStep) (m' t' : List ℕ) → ring < 4
+    → r ≡ onRing (levelRights p g) ring → StepOfLevel f r m t s m' t'
+    → Steps g (levelOn f p ring m t) (levelOn (s .file) p (s .ring) m' t') (s .event)
+stepped g p ring f m t {r} s m' t' h e d l k q =
+    let rights : levelRights (loweredPcr p ring) (k .paging) ≡ r =
+    ap (levelRights (loweredPcr p ring)) q ∙ ring-rights p ring g h ∙ sym e in
+    sym (d l (loweredPcr p ring) k rights)
+    ∙ ap (λ (x : ℕ). eventPart l (coreOf (s .file) x k) m' t' (s .event)) (ring-twice p ring (s .ring) h)
+
+-- what quiet_steps answers
+abbrev pub Answered : File → ℕ → ℕ → List ℕ → List ℕ → ℕ → List ℕ → List ℕ → Burst → Type 0
+Answered f p g m t n m' t' b = (b .before < n) × (QuietSteps f p g m t n b m' t' × QuietStep f p g m t b m' t')

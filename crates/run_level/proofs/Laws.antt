@@ -1,0 +1,69 @@
+-- A step of the packed machine, and a run that goes on behind a step.
+-- Assumes nothing.
+use Prim.Native.Nat.{ℕ, suc, _+_, _-_, _<_}
+use mathlib.Core.Path.{_≡_, refl, sym, ap, _∙_}
+use mathlib.Core.Bool.{Bool, true, false, _&&_}
+use mathlib.Core.List.{List}
+use native.Mathlib.Omega.{arith}
+use Rattle.isa.specs.Machine.{pack, coreOf}
+use Rattle.isa.specs.Step.{Part, turn, farStage, settled, step, stepIn, isStopped, changeDue}
+use Rattle.isa.specs.Run.{runFrom}
+use Rattle.isa.proofs.Packing.{open-pack, pack-pack}
+use Rattle.isa.specs.declared.machine.Core.{Core}
+use Rattle.isa.specs.declared.machine.State.{State}
+use Rattle.isa.proofs.Tests.{no-both}
+use Rattle.event.specs.Events.{eventPart, isFine}
+use Rattle.event.specs.declared.Event.{Event}
+use Rattle.event.specs.declared.Event.the-variants.{Fine, Failed, Error, Privileged, Monitor, Illegal}
+use Rattle.levels.specs.Changes.{dueAt}
+use Rattle.levels.proofs.Changes.{due-pack}
+use Rattle.run_level.specs.Bursts.{Levels, Executes, leaves, goesOn}
+
+-- where no change of level is due, a run to the first interrupt goes on as a run through does
+pub no-change : (first : Bool) (s : State) → dueAt (s .level) (s .control) ≡ false → (first && changeDue s) ≡ false
+no-change true s h = due-pack s ∙ h
+no-change false s h = refl
+
+-- a machine that is to fetch and execute
+pub one-step : (l : ℕ) (c : Core) (regs pcrs m t : List ℕ) → Executes l (c .control) → Levels l regs pcrs
+    → step (pack l c regs pcrs) m t ≡ leaves l regs pcrs (stepIn l c m t)
+unfolding step settled changeDue
+one-step l c regs pcrs m t x h =
+    let opened : coreOf (pack l c regs pcrs) ≡ c = open-pack l c regs pcrs (h .level) (h .registers) (h .controls) in
+    let packed = pack-pack l c regs pcrs (h .level) (h .registers) (h .controls) in
+    let r : Part = stepIn l c m t in
+    rw (x .runs, x .stays)
+    (ap (λ (d : Core). settled (pack l c regs pcrs) (stepIn l d m t)) opened
+    ∙ ap (λ (s : State). farStage s (r .near .gave) (r .memory) (r .tables) (r .near .far)) (packed (r .near .core)))
+
+-- before a step that is taken
+pub runs-on : (first : Bool) (n j before : ℕ) (s : State) (m t : List ℕ)
+    → before < n → isStopped s ≡ false → (first && changeDue s) ≡ false
+    → runFrom first (n - before) (j + before) s m t ≡ goesOn first n j before (step s m t)
+runs-on first n j before s m t b h d =
+    let e : n - before ≡ suc (n - suc before) = omega (arith, b) in
+    ap (λ (x : ℕ). runFrom first x (j + before) s m t) e ∙ rw (h, d)
+
+-- behind a step that gave nothing
+pub goes-on : (first : Bool) (n j before : ℕ) (s : State) (m t : List ℕ)
+    → goesOn first n j before (turn s 0 m t) ≡ runFrom first (n - suc before) (j + suc before) s m t
+goes-on true n j before s m t =
+    let e : suc (j + before) ≡ j + suc before = omega arith in
+    ap (λ (x : ℕ). runFrom true (n - suc before) x s m t) e
+goes-on false n j before s m t =
+    let e : suc (j + before) ≡ j + suc before = omega arith in
+    ap (λ (x : ℕ). runFrom false (n - suc before) x s m t) e
+
+pub fine-event : (e : Event) → isFine e ≡ true → e ≡ Fine
+fine-event Fine h = refl
+fine-event (Failed x) h = absurd (no-both h)
+fine-event Error h = absurd (no-both h)
+fine-event (Privileged q) h = absurd (no-both h)
+fine-event (Monitor n) h = absurd (no-both h)
+fine-event Illegal h = absurd (no-both h)
+
+-- an event that is fine leaves nothing to be done
+pub fine-leaves : (l : ℕ) (c : Core) (regs pcrs m t : List ℕ)
+    → leaves l regs pcrs (eventPart l c m t Fine) ≡ turn (pack l c regs pcrs) 0 m t
+unfolding eventPart farStage
+fine-leaves l c regs pcrs m t = refl

@@ -1,0 +1,214 @@
+-- Each step that is fine is one more of the run's; the last one leaves its event.
+-- Assumes nothing.
+use Prim.Native.Nat.{ℕ, suc, _-_, _<_, _≤_}
+use mathlib.Core.Path.{_≡_, refl, sym, ap, subst, _∙_}
+use mathlib.Core.List.{List}
+use native.Mathlib.Omega.{arith}
+use native.Mathlib.Nat.{le-refl}
+use lib.ListN.{length}
+use borrow.Author.Needs.{needs}
+use borrow.Author.Tests.{not-false}
+use Rattle.isa.specs.declared.access.Rights.{Rights}
+use Rattle.isa.specs.declared.machine.File.{File}
+use Rattle.event.specs.Events.{isFine}
+use Rattle.event.specs.declared.Event.{Event}
+use Rattle.event.specs.declared.Event.the-variants.{Fine}
+use Rattle.paging.specs.Levels.{levelRights, onRing}
+use Rattle.paging.proofs.Levels.{same-ring}
+use Rattle.run_level.proofs.Bursts.{Level, Steps, Quiet, at-start, all-quiet, the-only, then-ends, first-step}
+use Rattle.run_level.proofs.Bursts.{then-quiet, levelOn, stepped, Answered}
+use Rattle.run_level.proofs.Laws.{fine-event}
+use Rattle.run_level.proofs.quiet_steps.Statement.{statement}
+use Rattle.run_level.proofs.quiet_steps.Tie as tie
+
+-- the level as the burst began
+abbrev begun : File → ℕ → List ℕ → List ℕ → Level
+begun f p m t = record { file = f; pcr = p; memory = m; tables = t }
+
+-- n - left quiet steps lead from there to where the level stands
+abbrev Inv-loop : tie.InvT-loop
+Inv-loop p paging mem₀ tables₀ n base file₀ ring₀ left₀ mem tables file ring left =
+    (Quiet paging n (begun file₀ p mem₀ tables₀) (n - left) (levelOn file p ring mem tables))
+    × (((left ≤ n) × (ring < 4)) × ((length mem ≡ length mem₀) × (length tables ≡ length tables₀)))
+
+abbrev μ-loop : tie.MeasureT-loop
+μ-loop p paging mem₀ tables₀ n base file₀ ring₀ left₀ mem tables file ring left = left
+
+level-rights-requires : tie.Need-level-rights-requires Inv-loop μ-loop
+level-rights-requires c κs = search needs
+
+loop-holds : tie.Need-loop-holds Inv-loop μ-loop
+loop-holds c =
+    let a = c .before .before .before .args in
+    let rights = c .level-rights .ensures .0 in
+    let start : Level = begun (a .f) (a .p) (a .mem .now) (a .tables .now) in
+    let here : Level = levelOn (a .f) (a .p) (c .level-rights .result .ring) (a .mem .now) (a .tables .now) in
+    let own : start ≡ here =
+    ap (λ (x : ℕ). begun (a .f) x (a .mem .now) (a .tables .now)) (sym (same-ring (a .p)))
+    ∙ ap (λ (r : Rights). levelOn (a .f) (a .p) (r .ring) (a .mem .now) (a .tables .now)) (sym rights) in
+    let none : 0 ≡ a .n - a .n = omega arith in
+    let ring : c .level-rights .result .ring < 4 = rw rights (omega arith) in (
+      subst (λ (k : ℕ). Quiet (a .paging) (a .n) start k here) none
+          (subst (Quiet (a .paging) (a .n) start 0) own (at-start (a .paging) (a .n) start)),
+      ((le-refl _, ring), (refl, refl)),
+    )
+
+on-ring-requires : tie.Need-on-ring-requires Inv-loop μ-loop
+on-ring-requires c κs = search needs
+
+step-in-requires : tie.Need-step-in-requires Inv-loop μ-loop
+step-in-requires c κs =
+    let on = c .before .before .on-ring in
+    let looping = c .before .before .before .before in
+    let l = looping .loop in
+    let level = looping .before in
+    let start = level .before .before .before in (
+      subst (λ (q : Rights). (q .normal < 4) × (q .alternate < 4)) (sym (on .ensures))
+          (level .level-rights .ensures .1),
+      (subst (λ (q : Rights). q .ring < 4) (sym (on .ensures)) (l .inv .1 .0 .1), l .inv .1 .1 .1 ∙ start .pre .0),
+    )
+
+ends-requires : tie.Need-ends-requires Inv-loop μ-loop
+ends-requires c κs = search needs
+
+sub-burst-of : tie.Need-sub-burst-of Inv-loop μ-loop
+sub-burst-of c =
+    let stepping = c .before .before .before .before in
+    let left = stepping .before .before .before in
+    let looping = left .before .before .before .before in
+    looping .before .loop .inv .1 .0 .0
+
+burst-of-requires : tie.Need-burst-of-requires Inv-loop μ-loop
+burst-of-requires c κs =
+    let file = c .before .before .before .before in
+    let stepping = file .before .before .before in
+    stepping .step-in .ensures .0
+
+same-length : tie.Need-same-length Inv-loop μ-loop
+same-length c =
+    let file = c .before .before .before .before in
+    let stepping = file .before .before .before .before in
+    let looping = stepping .before .before .before .before in
+    stepping .step-in .kept .1 .1 .0 ∙ looping .before .loop .inv .1 .1 .0
+
+same-length-2 : tie.Need-same-length-2 Inv-loop μ-loop
+same-length-2 c =
+    let file = c .before .before .before .before in
+    let stepping = file .before .before .before .before in
+    let looping = stepping .before .before .before .before in
+    stepping .step-in .kept .1 .1 .1 .0 ∙ looping .before .loop .inv .1 .1 .1
+
+returns : tie.Need-returns Inv-loop μ-loop
+returns c =
+    -- the step's event ends the burst
+    let file = c .before .before .before .before in
+    let stepping = file .before .before .before .before in
+    let tested = stepping .before .before .before .before in
+    let l = tested .before .loop in
+    let level = tested .before .before .level-rights in
+    let began = tested .before .before .before .before in
+    let start = began .before in
+    let a = start .args in
+    let s = stepping .step-in in
+    let m = s .last .1 .1 .0 in
+    let t = s .last .1 .1 .1 .0 in
+    let on = stepping .before .before .before .on-ring in
+    let rights = on .ensures ∙ ap (λ (r : Rights). onRing r (l .ring)) (level .ensures .0) in
+    let d : Level = levelOn (s .result .file) (a .p) (s .result .ring) m t in
+    let e : Event = s .result .event in
+    let one : Steps (a .paging) (levelOn (l .file) (a .p) (l .ring) (l .mem) (l .tables)) d e =
+    stepped (a .paging) (a .p) (l .ring) (l .file) (l .mem) (l .tables) (s .result) m t (l .inv .1 .0 .1) rights
+    (s .ensures .1) in
+    let fewer : a .n - l .left < a .n = omega (arith, tested .loop-test .taken, l .inv .1 .0 .0) in
+    subst (Answered (a .f) (a .p) (a .paging) (a .mem .now) (a .tables .now) (a .n) m t) (sym (c .burst-of .ensures))
+    (fewer, (then-ends (l .inv .0) fewer d e one, λ z. first-step (l .inv .0) fewer d e one z))
+
+sub-left : tie.Need-sub-left Inv-loop μ-loop
+sub-left c = search needs
+
+loop-less : tie.Need-loop-less Inv-loop μ-loop
+loop-less c = search needs
+
+loop-again : tie.Need-loop-again Inv-loop μ-loop
+loop-again c =
+    -- one more quiet step
+    let file = c .before .before .before .before in
+    let stepping = file .before .before .before in
+    let tested = stepping .before .before .before .before in
+    let l = tested .before .loop in
+    let level = tested .before .before .level-rights in
+    let began = tested .before .before .before .before in
+    let start = began .before in
+    let a = start .args in
+    let s = stepping .step-in in
+    let m = s .last .1 .1 .0 in
+    let t = s .last .1 .1 .1 .0 in
+    let on = stepping .before .before .before .on-ring in
+    let rights = on .ensures ∙ ap (λ (r : Rights). onRing r (l .ring)) (level .ensures .0) in
+    let b : Level = levelOn (l .file) (a .p) (l .ring) (l .mem) (l .tables) in
+    let d : Level = levelOn (s .result .file) (a .p) (s .result .ring) m t in
+    let e : Event = s .result .event in
+    let one : Steps (a .paging) b d e =
+    stepped (a .paging) (a .p) (l .ring) (l .file) (l .mem) (l .tables) (s .result) m t (l .inv .1 .0 .1) rights
+    (s .ensures .1) in
+    let fine : e ≡ Fine = fine-event e (not-false (isFine e) (sym (c .before .ends .ensures) ∙ c .if1 .left)) in
+    let fewer : a .n - l .left < a .n = omega (arith, tested .loop-test .taken, l .inv .1 .0 .0) in
+    let more = then-quiet (l .inv .0) fewer d (subst (Steps (a .paging) b d) fine one) in
+    let next : suc (a .n - l .left) ≡ a .n - (l .left - 1) = omega (arith, tested .loop-test .taken, l .inv .1 .0 .0) in
+    let less : l .left - 1 ≤ a .n = omega (arith, l .inv .1 .0 .0) in (
+      subst (λ (k : ℕ). Quiet (a .paging) (a .n) (begun (a .f) (a .p) (a .mem .now) (a .tables .now)) k d) next more,
+      ((less, s .ensures .0), (s .kept .1 .1 .0 ∙ l .inv .1 .1 .0, s .kept .1 .1 .1 .0 ∙ l .inv .1 .1 .1)),
+    )
+
+sub-burst-of-2 : tie.Need-sub-burst-of-2 Inv-loop μ-loop
+sub-burst-of-2 c = search needs
+
+burst-of-requires-2 : tie.Need-burst-of-requires-2 Inv-loop μ-loop
+burst-of-requires-2 c κs = c .before .loop .inv .1 .0 .1
+
+same-length-3 : tie.Need-same-length-3 Inv-loop μ-loop
+same-length-3 c = search needs
+
+same-length-4 : tie.Need-same-length-4 Inv-loop μ-loop
+same-length-4 c = search needs
+
+returns-2 : tie.Need-returns-2 Inv-loop μ-loop
+returns-2 c =
+    -- all n steps were quiet
+    let l = c .before .before .loop in
+    let level = c .before .before .before in
+    let start = level .before .before .before in
+    let a = start .args in
+    let d : Level = levelOn (l .file) (a .p) (l .ring) (l .mem) (l .tables) in
+    let all : a .n - l .left ≡ a .n = omega (arith, c .before .loop-test .left) in
+    let q : Quiet (a .paging) (a .n) (begun (a .f) (a .p) (a .mem .now) (a .tables .now)) (a .n) d =
+    subst (λ (k : ℕ). Quiet (a .paging) (a .n) (begun (a .f) (a .p) (a .mem .now) (a .tables .now)) k d) all
+    (l .inv .0) in
+    subst (Answered (a .f) (a .p) (a .paging) (a .mem .now) (a .tables .now) (a .n) (l .mem) (l .tables))
+    (sym (c .burst-of2 .ensures))
+    (omega (arith, start .pre .1), (all-quiet q (start .pre .1), λ z. the-only q (start .pre .1) z))
+
+pub quiet-steps-spec : {M : Type 1} → statement M
+quiet-steps-spec =
+    tie.close
+    (tie.spec
+    Inv-loop
+    μ-loop
+    level-rights-requires
+    loop-holds
+    on-ring-requires
+    step-in-requires
+    ends-requires
+    sub-burst-of
+    burst-of-requires
+    same-length
+    same-length-2
+    returns
+    sub-left
+    loop-less
+    loop-again
+    sub-burst-of-2
+    burst-of-requires-2
+    same-length-3
+    same-length-4
+    returns-2)

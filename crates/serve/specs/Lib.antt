@@ -1,2 +1,0 @@
--- What serving a request answers to, beside the definitions of the machine.
-pub mod Served

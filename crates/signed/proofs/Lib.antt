@@ -1,2 +1,0 @@
--- Laws behind the functions' proofs.
-pub mod Laws

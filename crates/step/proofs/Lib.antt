@@ -1,2 +1,0 @@
-pub mod Exr
-pub mod Steps

@@ -1,4 +1,0 @@
-// The privileged instructions that act on the running level and the control words alone, and internal interrupts.
-pub mod control;
-pub mod internal;
-pub mod interrupt;

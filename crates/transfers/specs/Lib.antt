@@ -1,2 +1,0 @@
--- What the functions answer to, beside the definitions of the machine.
-pub mod Words

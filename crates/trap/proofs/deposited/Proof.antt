@@ -1,0 +1,89 @@
+-- The access passes if the address lies in memory.
+-- Assumes nothing.
+use mathlib.Core.Path.{_≡_, ap, _∙_}
+use lib.ListN.{length}
+use Rattle.isa.specs.Pages.{withinMemory, Lent}
+use Rattle.isa.specs.Step.{part, physicalAddress, deposited}
+use Rattle.isa.specs.declared.access.Kind.the-variants.{Write}
+use Rattle.isa.specs.declared.answer.Far.the-variants.{Nothing}
+use Rattle.paging.proofs.Outcomes.{passes-zero, fails-other}
+use Rattle.trap.proofs.Laws.{place-within, in-memory, past-memory}
+use borrow.Author.Needs.{needs}
+use Rattle.trap.proofs.deposited.Statement.{statement}
+use Rattle.trap.proofs.deposited.Tie as tie
+
+-- the translation of the physical address
+place : (k : tie.After-physical)
+    → k .physical .result ≡ withinMemory (length (k .before .before .before .before .args .mem .now)) Write
+    (physicalAddress (k .before .before .before .before .args .c .file))
+place k =
+    k .physical .ensures
+    ∙ ap (withinMemory (length (k .before .before .before .before .args .mem .now)) Write)
+    (k .before .physical-address .ensures)
+
+physical-address-requires : tie.Need-physical-address-requires
+physical-address-requires c κs = search needs
+
+physical-requires : tie.Need-physical-requires
+physical-requires c κs = search needs
+
+fault-of-requires : tie.Need-fault-of-requires
+fault-of-requires c κs = search needs
+
+get-requires : tie.Need-get-requires
+get-requires c κs = search needs
+
+store-at-requires : tie.Need-store-at-requires
+store-at-requires c κs =
+    let then = c .before .before .before .before .before .before .before .before .before in
+    let start = then .before in
+    (place-within _ Write _ (place (c .before .before .before .before .before .before)), start .pre)
+
+left-requires : tie.Need-left-requires
+left-requires c κs = search needs
+
+same-length : tie.Need-same-length
+same-length c = search needs
+
+same-length-2 : tie.Need-same-length-2
+same-length-2 c = search needs
+
+returns : tie.Need-returns
+unfolding deposited
+returns c =
+    let i = c .before .before .before .before .before .before .before .before .before .before in
+    let k = i .before .before in
+    let q = in-memory _ Write _ (place k)
+    (passes-zero (k .physical .result) (i .before .fault-of .ensures) (i .if1 .taken)) in
+    c .left .ensures _ _
+    ∙ ap (λ (r : Lent). part (k .before .before .before .before .args .c) 0 Nothing (r .memory) (r .tables))
+    (c .before .before .before .before .before .store-at .ensures)
+    ∙ simp (q .0, q .1, c .before .before .before .before .before .before .get .ensures)
+
+failed-requires : tie.Need-failed-requires
+failed-requires c κs = search needs
+
+returns-2 : tie.Need-returns-2
+unfolding deposited
+returns-2 c =
+    let i = c .before in
+    let k = i .before .before in
+    let q = past-memory _ Write _ (place k)
+    (fails-other (k .physical .result) (i .before .fault-of .ensures) (i .if1 .left)) in
+    c .failed .ensures _ _ ∙ simp (q .0, q .1)
+
+pub deposited-spec : {M : Type 1} → statement M
+deposited-spec =
+    tie.close
+    (tie.spec
+    physical-address-requires
+    physical-requires
+    fault-of-requires
+    get-requires
+    store-at-requires
+    left-requires
+    same-length
+    same-length-2
+    returns
+    failed-requires
+    returns-2)

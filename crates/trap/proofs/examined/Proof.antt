@@ -1,0 +1,88 @@
+-- The access passes if the address lies in memory.
+-- Assumes nothing.
+use mathlib.Core.Path.{_≡_, ap, _∙_}
+use lib.ListN.{length}
+use Rattle.isa.specs.Pages.{withinMemory}
+use Rattle.isa.specs.Step.{physicalAddress, examined}
+use Rattle.isa.specs.declared.access.Kind.the-variants.{Read}
+use Rattle.paging.proofs.Outcomes.{passes-zero, fails-other}
+use Rattle.trap.proofs.Laws.{place-within, in-memory, past-memory}
+use borrow.Author.Needs.{needs}
+use Rattle.trap.proofs.examined.Statement.{statement}
+use Rattle.trap.proofs.examined.Tie as tie
+
+-- the translation of the physical address
+place : (k : tie.After-physical)
+    → k .physical .result ≡ withinMemory (length (k .before .before .before .before .args .mem .now)) Read
+    (physicalAddress (k .before .before .before .before .args .c .file))
+place k =
+    k .physical .ensures
+    ∙ ap (withinMemory (length (k .before .before .before .before .args .mem .now)) Read)
+    (k .before .physical-address .ensures)
+
+physical-address-requires : tie.Need-physical-address-requires
+physical-address-requires c κs = search needs
+
+physical-requires : tie.Need-physical-requires
+physical-requires c κs = search needs
+
+fault-of-requires : tie.Need-fault-of-requires
+fault-of-requires c κs = search needs
+
+word-at-requires : tie.Need-word-at-requires
+word-at-requires c κs = (
+  place-within _ Read _ (place (c .before .before .before)),
+  c .before .before .before .before .before .before .before .pre,
+)
+
+with-requires : tie.Need-with-requires
+with-requires c κs = search needs
+
+with-file-requires : tie.Need-with-file-requires
+with-file-requires c κs = search needs
+
+left-requires : tie.Need-left-requires
+left-requires c κs = search needs
+
+returns : tie.Need-returns
+unfolding examined
+returns c =
+    let i = c .before .before .before .before .before in
+    let k = i .before .before in
+    let q = in-memory _ Read _ (place k)
+    (passes-zero (k .physical .result) (i .before .fault-of .ensures) (i .if1 .taken)) in
+    λ t. c .left .ensures _ t
+    ∙ simp (
+      q .0,
+      q .1,
+      c .before .with-file .ensures,
+      c .before .before .with .ensures,
+      c .before .before .before .word-at .ensures,
+    )
+
+failed-requires : tie.Need-failed-requires
+failed-requires c κs = search needs
+
+returns-2 : tie.Need-returns-2
+unfolding examined
+returns-2 c =
+    let i = c .before in
+    let k = i .before .before in
+    let q = past-memory _ Read _ (place k)
+    (fails-other (k .physical .result) (i .before .fault-of .ensures) (i .if1 .left)) in
+    λ t. c .failed .ensures _ t ∙ simp (q .0, q .1)
+
+pub examined-spec : {M : Type 1} → statement M
+examined-spec =
+    tie.close
+    (tie.spec
+    physical-address-requires
+    physical-requires
+    fault-of-requires
+    word-at-requires
+    with-requires
+    with-file-requires
+    left-requires
+    returns
+    failed-requires
+    returns-2)

@@ -1,0 +1,37 @@
+-- The fault's interrupt, after its paging status.
+-- Assumes nothing.
+use Prim.Native.Nat.{ℕ, _<_}
+use mathlib.Core.Path.{sym, subst}
+use Rattle.isa.specs.Step.{faulted}
+use Rattle.trap.proofs.Laws.{fault-small}
+use borrow.Author.Needs.{needs}
+use Rattle.trap.proofs.faulted.Statement.{statement}
+use Rattle.trap.proofs.faulted.Tie as tie
+
+pgs-after-requires : tie.Need-pgs-after-requires
+pgs-after-requires c κs = search needs
+
+fault-of-requires : tie.Need-fault-of-requires
+fault-of-requires c κs = search needs
+
+with-control-requires : tie.Need-with-control-requires
+with-control-requires c κs = search needs
+
+gives-requires : tie.Need-gives-requires
+gives-requires c κs =
+    subst (λ (n : ℕ). n < 16) (sym (c .before .fault-of .ensures))
+    (fault-small (c .before .before .before .before .args .x))
+
+returns : tie.Need-returns
+unfolding faulted
+returns c = simp (
+  c .gives .ensures,
+  c .before .with-control .ensures,
+  c .before .before .fault-of .ensures,
+  c .before .before .before .pgs-after .ensures,
+)
+
+pub faulted-spec : {M : Type 1} → statement M
+faulted-spec =
+    tie.close
+    (tie.spec pgs-after-requires fault-of-requires with-control-requires gives-requires returns)

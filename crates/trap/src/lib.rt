@@ -1,0 +1,148 @@
+// What an event makes of the running level: interrupts, privilege, and the privileged instructions.
+ghost use Rattle.isa.specs.Machine.{tableWords};
+ghost use mathlib.Core.Path.{_≡_};
+ghost use mathlib.Core.List.{List};
+ghost use Prim.Native.Nat.{ℕ, _<_};
+ghost use lib.ListN.{length};
+ghost use Rattle.isa.specs.Step.{faulted, failed, trapped, part, examined, deposited, systemStage, privileged};
+ghost use Rattle.isa.specs.Step.{physicalAddress};
+ghost use Rattle.event.specs.Events.{eventPart};
+ghost use Rattle.trap.specs.Parts.{partOf};
+use control::instruction::controlled;
+use control::interrupt::gives;
+use event::Event;
+use isa::access::Kind;
+use isa::access::Translation;
+use isa::answer::Far;
+use isa::answer::Near;
+use isa::instruction::System;
+use isa::machine::Core;
+use isa::machine::Register;
+use paging::place::fault_of;
+use paging::place::pgs_after;
+use paging::place::store_at;
+use paging::place::word_at;
+use paging::translation::physical;
+
+// Whatever memory and tables hold.
+fn left(c: Core, gave: u16, far: Far) -> Near
+    ensures { λ n. ⌜ ((m t : List ℕ) → partOf n m t ≡ part c gave far m t) ⌝ }
+{
+    Near {
+        core: c,
+        gave: gave,
+        far: far,
+    }
+}
+
+// A failed access: 2 and 3 set PGS.
+pub fn faulted(x: Translation, c: Core) -> Core
+    ensures { λ d. ⌜ d ≡ faulted x c ⌝ }
+{
+    let mut k = c.control;
+    k.pgs = pgs_after(k.pgs, x);
+    gives(fault_of(x), c.with_control(k))
+}
+
+fn failed(c: Core, x: Translation) -> Near
+    ensures { λ n. ⌜ ((m t : List ℕ) → partOf n m t ≡ failed c x m t) ⌝ }
+{
+    left(faulted(x, c), fault_of(x), Far::Nothing)
+}
+
+fn trapped(n: u16, c: Core) -> Near
+    requires { ⌜ n < 16 ⌝ }
+    ensures { λ r. ⌜ ((m t : List ℕ) → partOf r m t ≡ trapped n c m t) ⌝ }
+{
+    left(gives(n, c), n, Far::Nothing)
+}
+
+// EXAM and DEPO: T from and to the physical address A * 65,536 + D.
+fn physical_address(c: Core) -> usize
+    ensures { λ p. ⌜ p ≡ physicalAddress (c .file) ⌝ }
+{
+    let f = c.file;
+    f.get(Register::A) as usize * 65536 + f.get(Register::D) as usize
+}
+
+fn examined(c: Core, mem: &[u16], tables: &[u16]) -> Near
+    requires { ⌜ length (now tables) ≡ tableWords ⌝ }
+    ensures { λ n. ⌜ ((t : List ℕ) → partOf n (now (mem .entry)) t ≡ examined c (now (mem .entry)) t) ⌝ }
+{
+    let x = physical(mem.len(), Kind::Read, physical_address(c));
+    if fault_of(x) == 0 {
+        let f = c.file;
+        let g = f.with(Register::T, word_at(mem, tables, x));
+        return left(c.with_file(g), 0, Far::Nothing);
+    }
+    failed(c, x)
+}
+
+fn deposited(c: Core, mem: &mut [u16], tables: &mut [u16]) -> Near
+    requires { ⌜ length (now tables) ≡ tableWords ⌝ }
+    ensures { λ n. ⌜ partOf n (now (mem .exit)) (now (tables .exit))
+        ≡ deposited c (now (mem .entry)) (now (tables .entry)) ⌝ }
+{
+    let x = physical(mem.len(), Kind::Write, physical_address(c));
+    if fault_of(x) == 0 {
+        let f = c.file;
+        store_at(mem, tables, x, f.get(Register::T));
+        return left(c, 0, Far::Nothing);
+    }
+    failed(c, x)
+}
+
+// A privileged instruction: done here, or left to be done outside the level.
+fn system_stage(level: u16, c: Core, mem: &mut [u16], tables: &mut [u16], q: System) -> Near
+    requires { ⌜ level < 16 ⌝ }
+    requires { ⌜ length (now tables) ≡ tableWords ⌝ }
+    ensures { λ n. ⌜ partOf n (now (mem .exit)) (now (tables .exit))
+        ≡ systemStage level c (now (mem .entry)) (now (tables .entry)) q ⌝ }
+{
+    match q {
+        System::Control(o) => left(controlled(level, c, o), 0, Far::Nothing),
+        System::TraPgc => left(c, 0, Far::ReadPcr),
+        System::TrrPcr => left(c, 0, Far::WritePcr),
+        System::Irr(n, r) => left(c, 0, Far::ReadRegister(n, r)),
+        System::Irw(n, r) => left(c, 0, Far::WriteRegister(n, r)),
+        System::Srb(n) => left(c, 0, Far::StoreBlock(n)),
+        System::Lrb(n) => left(c, 0, Far::LoadBlock(n)),
+        System::Exam => examined(c, mem, tables),
+        System::Depo => deposited(c, mem, tables),
+        System::Iox(_) => trapped(7, c),
+        System::Ioxt => trapped(7, c),
+        System::Ident(_) => trapped(7, c),
+    }
+}
+
+fn privileged(c: Core) -> bool
+    ensures { λ b. ⌜ b ≡ privileged c ⌝ }
+{
+    let k = c.control;
+    if k.paging == 1 {
+        return 2 <= c.pcr % 4;
+    }
+    true
+}
+
+// The event e in the core c, of which P is where the step leaves it.
+pub fn after_event(level: u16, c: Core, mem: &mut [u16], tables: &mut [u16], e: Event) -> Near
+    requires { ⌜ level < 16 ⌝ }
+    requires { ⌜ length (now tables) ≡ tableWords ⌝ }
+    ensures { λ n. ⌜ partOf n (now (mem .exit)) (now (tables .exit))
+        ≡ eventPart level c (now (mem .entry)) (now (tables .entry)) e ⌝ }
+{
+    match e {
+        Event::Fine => left(c, 0, Far::Nothing),
+        Event::Failed(x) => failed(c, x),
+        Event::Error => trapped(5, c),
+        Event::Privileged(q) => {
+            if privileged(c) {
+                return system_stage(level, c, mem, tables, q);
+            }
+            trapped(6, c)
+        }
+        Event::Monitor(n) => left(gives(1, c), 1, Far::Call(arithmetic::signed::word_of(n))),
+        Event::Illegal => trapped(4, c),
+    }
+}

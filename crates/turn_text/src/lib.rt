@@ -1,0 +1,131 @@
+// `turn` of document 01: from the bytes of an image to the text that is printed.
+ghost use mathlib.Core.Path.{_≡_};
+ghost use Rattle.turn_text.specs.Turn.{endOf, ranFrom, clearedState, imageTurned, turned};
+ghost use Rattle.turn_text.specs.Turn.{register as Turn·register};
+use crate::bytes::put_words;
+use isa::answer::Answer;
+use isa::answer::Reason;
+use isa::answer::Refusal;
+use isa::answer::RunAnswer;
+use isa::machine::Control;
+use isa::machine::State;
+
+mod bytes;
+pub mod printing;
+
+// How a run ended: reason and steps, the running level and its registers.
+pub struct End {
+    pub reason: Reason,
+    pub steps: u64,
+    pub level: u16,
+    pub sts: u16,
+    pub d: u16,
+    pub p: u16,
+    pub b: u16,
+    pub l: u16,
+    pub a: u16,
+    pub t: u16,
+    pub x: u16,
+}
+
+// What an image comes to.
+pub enum Turned {
+    Refused(Refusal),
+    Ended(End),
+}
+
+// A register of the running level.
+fn register(s: State, n: u16) -> u16
+    ensures { λ r. ⌜ r ≡ Turn·register s n ⌝ }
+{
+    let i = s.level as usize * 8 + n as usize;
+    if i < 128 {
+        return s.regs[i];
+    }
+    0
+}
+
+fn end_of(w: Reason, k: u64, s: State) -> End
+    ensures { λ r. ⌜ r ≡ endOf w k s ⌝ }
+{
+    End {
+        reason: w,
+        steps: k,
+        level: s.level,
+        sts: register(s, 0),
+        d: register(s, 1),
+        p: register(s, 2),
+        b: register(s, 3),
+        l: register(s, 4),
+        a: register(s, 5),
+        t: register(s, 6),
+        x: register(s, 7),
+    }
+}
+
+// All registers and control words 0.
+fn cleared() -> State
+    ensures { λ r. ⌜ r ≡ clearedState ⌝ }
+{
+    State {
+        regs: [0; 128],
+        level: 0,
+        control: Control {
+            interrupts: 0,
+            paging: 0,
+            stopped: 0,
+            pid: 0,
+            pie: 0,
+            pvl: 0,
+            iid: 0,
+            iie: 0,
+            pgs: 0,
+        },
+        pcr: [0; 16],
+    }
+}
+
+// At most 1,000 steps from a state.
+fn run_state(s: State, mem: &mut [u16], tables: &mut [u16]) -> Turned
+    ensures { λ r. ⌜ r ≡ ranFrom s (now (mem .entry)) (now (tables .entry)) ⌝ }
+{
+    let ran = operations::runs::through(s, mem, tables, 1000);
+    let a = ran.answer;
+    let after = ran.state;
+    match a {
+        RunAnswer::Ran(k, w) => Turned::Ended(end_of(w, k, after)),
+        RunAnswer::Refused(r) => Turned::Refused(r),
+    }
+}
+
+// An image loaded and run.
+fn run_image(image: &[u16], mem: &mut [u16], tables: &mut [u16]) -> Turned
+    ensures { λ r. ⌜ r ≡ imageTurned (now (image .entry)) (now (mem .entry)) (now (tables .entry)) ⌝ }
+{
+    let loaded = operations::load(cleared(), image, mem, tables);
+    let a = loaded.answer;
+    let s = loaded.state;
+    match a {
+        Answer::Done => run_state(s, mem, tables),
+        Answer::Refused(r) => Turned::Refused(r),
+    }
+}
+
+// An image in bytes, loaded into 16 cleared pages and run. More than 65,536 bytes or an odd count is refusal 8 before
+// all else.
+pub fn turn(input: &[u8]) -> Turned
+    ensures { λ r. ⌜ r ≡ turned (now (input .entry)) ⌝ }
+{
+    let n = input.len();
+    if 65536 < n {
+        return Turned::Refused(Refusal::Bodies);
+    }
+    if n % 2 != 0 {
+        return Turned::Refused(Refusal::Bodies);
+    }
+    let mut words = [0u16; 32768];
+    let mut mem = [0u16; 16384];
+    let mut tables = [0u16; 256];
+    let count = put_words(input, &mut words);
+    run_image(&words[..count], &mut mem, &mut tables)
+}
