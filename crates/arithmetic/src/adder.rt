@@ -4,6 +4,11 @@ ghost use Prim.Native.Nat.{_<_};
 ghost use Rattle.isa.specs.Flags.{adder, withOverflow, withSum, complement};
 use crate::bits;
 use crate::whole;
+use isa::constant::FLAG_C;
+use isa::constant::FLAG_O;
+use isa::constant::FLAG_Q;
+use isa::constant::WORD_BITS;
+use isa::constant::WORD_RANGE;
 
 // A sum's low 16 bits, the carry out of bit 15, and the signed overflow.
 pub struct Sum {
@@ -17,7 +22,9 @@ fn overflow_of(a: u16, b: u16, c: u16) -> u16
     requires { ⌜ c < 2 ⌝ }
     ensures { λ r. ⌜ r ≡ adder a b c .overflow ⌝ }
 {
-    whole::beyond(whole::signed(16, a as u32) + whole::signed(16, b as u32) + c as i64)
+    whole::beyond(
+        whole::signed(WORD_BITS, a as u32) + whole::signed(WORD_BITS, b as u32) + c as i64,
+    )
 }
 
 // The carry out of bit 15.
@@ -27,7 +34,7 @@ fn carry_of(a: u16, b: u16, c: u16) -> u16
     ensures { λ r. ⌜ r < 2 ⌝ }
 {
     let s = a as u32 + b as u32 + c as u32;
-    (s / 65536) as u16
+    (s / WORD_RANGE) as u16
 }
 
 // a + b with the carry in c.
@@ -51,9 +58,9 @@ pub fn with_overflow(o: u16, sts: u16) -> u16
     ensures { λ r. ⌜ r ≡ withOverflow o sts ⌝ }
 {
     if o == 1 {
-        return bits::with_bit(5, 1, bits::with_bit(4, 1, sts));
+        return bits::with_bit(FLAG_O, 1, bits::with_bit(FLAG_Q, 1, sts));
     }
-    bits::with_bit(5, 0, sts)
+    bits::with_bit(FLAG_O, 0, sts)
 }
 
 // STS after an addition.
@@ -61,7 +68,7 @@ pub fn with_sum(s: Sum, sts: u16) -> u16
     requires { ⌜ s .carry < 2 ⌝ }
     ensures { λ r. ⌜ r ≡ withSum (record { value = s .value; carry = s .carry; overflow = s .overflow }) sts ⌝ }
 {
-    bits::with_bit(6, s.carry, with_overflow(s.overflow, sts))
+    bits::with_bit(FLAG_C, s.carry, with_overflow(s.overflow, sts))
 }
 
 // The complement of a word.

@@ -5,6 +5,7 @@ ghost use lib.IntN.{natAbs};
 ghost use Rattle.isa.specs.Machine.{flagOf};
 ghost use Rattle.isa.specs.Flags.{bitsOf, product, productOverflow};
 use crate::whole;
+use isa::constant::WORD_BITS;
 
 // A product's low 16 bits, and 1 where its absolute value exceeds 32,767.
 pub struct Product {
@@ -15,7 +16,7 @@ pub struct Product {
 fn signed_product(a: u16, b: u16) -> i64
     ensures { λ r. ⌜ r ≡ product a b ⌝ }
 {
-    whole::signed(16, a as u32) * whole::signed(16, b as u32)
+    whole::signed(WORD_BITS, a as u32) * whole::signed(WORD_BITS, b as u32)
 }
 
 // 1 for an absolute value above 32,767: of -32768 too.

@@ -4,6 +4,8 @@ ghost use Prim.Native.Nat.{_<_};
 ghost use Rattle.isa.specs.Flags.{quotient, remainder};
 ghost use Rattle.arithmetic.specs.Results.{divisionOf};
 use crate::whole;
+use isa::constant::DOUBLE_BITS;
+use isa::constant::WORD_BITS;
 
 // The quotient and the remainder, or neither: the divisor is 0, or the quotient is beyond 16 bits signed.
 pub enum Division {
@@ -22,8 +24,8 @@ fn signed_division(n: u32, d: u16) -> Whole
     ensures quotient { λ r. ⌜ r .quotient ≡ quotient n d ⌝ }
     ensures remainder { λ r. ⌜ r .remainder ≡ remainder n d ⌝ }
 {
-    let x = whole::signed(32, n);
-    let y = whole::signed(16, d as u32);
+    let x = whole::signed(DOUBLE_BITS, n);
+    let y = whole::signed(WORD_BITS, d as u32);
     Whole {
         quotient: x / y,
         remainder: x % y,

@@ -3,6 +3,8 @@ ghost use mathlib.Core.Path.{_≡_};
 ghost use Prim.Native.Nat.{_<_};
 ghost use Rattle.isa.specs.Flags.{lowerInput, upperInput, once, placesBy, shiftBy};
 ghost use Rattle.arithmetic.specs.Results.{shiftedOf, InWidth};
+use isa::constant::DOUBLE_BITS;
+use isa::constant::WORD_BITS;
 use isa::instruction::ShiftKind;
 
 // The value shifted, and M.
@@ -90,7 +92,7 @@ pub fn shift16(k: ShiftKind, n: i16, v: u16, m: u16) -> Shifted
     ensures width { λ r. ⌜ (r .value < 65536) × (r .m < 2) ⌝ }
 {
     shift_by(
-        16,
+        WORD_BITS,
         k,
         n,
         Shifted {
@@ -107,5 +109,5 @@ pub fn shift32(k: ShiftKind, n: i16, v: u32, m: u16) -> Shifted
     ensures m { λ r. ⌜ r .m ≡ shiftBy 32 k n (record { value = v; m = m }) .m ⌝ }
     ensures width { λ r. ⌜ (r .value < 4294967296) × (r .m < 2) ⌝ }
 {
-    shift_by(32, k, n, Shifted { value: v, m: m })
+    shift_by(DOUBLE_BITS, k, n, Shifted { value: v, m: m })
 }

@@ -4,6 +4,8 @@ ghost use lib.Signed.{leZ};
 ghost use Rattle.isa.specs.Flags.{signedOf, bitsOf, wordDifference, compares};
 ghost use Rattle.isa.specs.Decode.{displacementOf, countOf};
 use crate::whole::signed;
+use isa::constant::WORD_BITS;
+use isa::constant::WORD_RANGE;
 use isa::instruction::Relation;
 
 // The displacement in bits 7-0, -128 to 127.
@@ -20,6 +22,9 @@ pub fn count(w: u16) -> i16
     ((w % 64 + 32) % 64) as i16 - 32
 }
 
+// What a word is below, as a signed number.
+const RANGE: i32 = WORD_RANGE as i32;
+
 // The word that holds a number in two's complement.
 pub fn word_of(z: i16) -> u16
     ensures { λ r. ⌜ r ≡ bitsOf 16 z ⌝ }
@@ -27,7 +32,7 @@ pub fn word_of(z: i16) -> u16
     if 0 <= z {
         return z as u16;
     }
-    ((z as i32) + 65536) as u16
+    ((z as i32) + RANGE) as u16
 }
 
 // d - s in 16 bits, whose sign GEQ tests.
@@ -41,7 +46,7 @@ fn difference(d: u16, s: u16) -> u16
 fn at_least(d: u16, s: u16) -> bool
     ensures { λ b. ⌜ b ≡ leZ (signedOf 16 s) (signedOf 16 d) ⌝ }
 {
-    signed(16, s as u32) <= signed(16, d as u32)
+    signed(WORD_BITS, s as u32) <= signed(WORD_BITS, d as u32)
 }
 
 // Whether the destination d stands in a relation to the source s.

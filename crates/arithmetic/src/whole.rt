@@ -5,6 +5,7 @@ ghost use mathlib.Core.Bool.{_||_};
 ghost use lib.Signed.{mag, ltZ};
 ghost use Rattle.isa.specs.Machine.{flagOf};
 ghost use Rattle.isa.specs.Flags.{signedOf, bitsOf, tooLarge};
+use isa::constant::WORD_RANGE;
 
 // The signed meaning of a field of k bits.
 pub fn signed(k: u32, n: u32) -> i64
@@ -52,5 +53,5 @@ pub fn word(z: i64) -> u16
     requires { ⌜ mag z < 2 ^ 32 ⌝ }
     ensures { λ r. ⌜ r ≡ bitsOf 16 z ⌝ }
 {
-    (double_word(z) % 65536) as u16
+    (double_word(z) % WORD_RANGE) as u16
 }

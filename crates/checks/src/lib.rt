@@ -8,6 +8,14 @@ ghost use Rattle.isa.specs.Answers.{stateAnswer, deviceLevel, raised};
 use arithmetic::bits::with_bit;
 use isa::answer::Answer;
 use isa::answer::Refusal;
+use isa::constant::FILE_SIZE;
+use isa::constant::LARGEST_MEMORY;
+use isa::constant::LEVEL_COUNT;
+use isa::constant::LEVELS;
+use isa::constant::PAGE_WORDS;
+use isa::constant::REGISTER_WORDS;
+use isa::constant::STATUS_RANGE;
+use isa::constant::TABLE_WORDS;
 use isa::machine::Control;
 use isa::machine::State;
 
@@ -17,13 +25,13 @@ pub mod answers;
 fn memory_size(n: usize) -> bool
     ensures { λ r. ⌜ r ≡ memorySize n ⌝ }
 {
-    if n % 1024 != 0 {
+    if n % PAGE_WORDS != 0 {
         return false;
     }
-    if n < 1024 {
+    if n < PAGE_WORDS {
         return false;
     }
-    n <= 524288
+    n <= LARGEST_MEMORY
 }
 
 // Whether memory and page tables have the sizes of document 01.
@@ -31,7 +39,7 @@ pub fn sizes_fit(mem: &[u16], tables: &[u16]) -> bool
     ensures { λ r. ⌜ r ≡ sizesFit (now (mem .entry)) (now (tables .entry)) ⌝ }
 {
     if memory_size(mem.len()) {
-        return tables.len() == 256;
+        return tables.len() == TABLE_WORDS;
     }
     false
 }
@@ -107,7 +115,7 @@ fn registers_fit(c: Control) -> bool
 fn numbers_fit(c: Control) -> bool
     ensures { λ r. ⌜ r ≡ (ltb (c .pvl) 16 && interruptBits (c .iid) && interruptBits (c .iie) && pgsBits (c .pgs)) ⌝ }
 {
-    if c.pvl < 16 {
+    if c.pvl < LEVELS {
         return registers_fit(c);
     }
     false
@@ -124,11 +132,11 @@ fn control_in_range(c: Control) -> bool
 }
 
 // Every PCR.
-fn all_pcr_bits(p: [u16; 16]) -> bool
+fn all_pcr_bits(p: [u16; LEVEL_COUNT]) -> bool
     ensures { λ r. ⌜ r ≡ allPcrBits p ⌝ }
 {
     let mut i: usize = 0;
-    while i < 16 {
+    while i < LEVEL_COUNT {
         if pcr_bits(p[i]) {
             i += 1;
         } else {
@@ -139,12 +147,12 @@ fn all_pcr_bits(p: [u16; 16]) -> bool
 }
 
 // Every STS.
-fn flags_fit(b: [u16; 128]) -> bool
+fn flags_fit(b: [u16; REGISTER_WORDS]) -> bool
     ensures { λ r. ⌜ r ≡ flagsFit 16 b ⌝ }
 {
     let mut i: usize = 0;
-    while i < 16 {
-        if 256 <= b[i * 8] {
+    while i < LEVEL_COUNT {
+        if STATUS_RANGE <= b[i * FILE_SIZE] {
             return false;
         }
         i += 1;
@@ -179,7 +187,7 @@ fn words_in_range(s: State) -> bool
 pub fn in_range(s: State) -> bool
     ensures { λ r. ⌜ r ≡ inRange s ⌝ }
 {
-    if s.level < 16 {
+    if s.level < LEVELS {
         return words_in_range(s);
     }
     false

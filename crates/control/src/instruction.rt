@@ -1,6 +1,7 @@
 // ION to MST.
 ghost use mathlib.Core.Path.{_≡_};
 ghost use Prim.Native.Nat.{_<_};
+ghost use Rattle.isa.specs.Machine.{levelCount};
 ghost use Rattle.isa.specs.System.{waited, switched, controlled};
 use crate::internal;
 use isa::instruction::ControlOp;
@@ -9,7 +10,7 @@ use isa::machine::Core;
 
 // WAIT stops with interrupts off; with them on it clears the running level's PID bit, but for level 0.
 fn waited(level: u16, k: Control) -> Control
-    requires { ⌜ level < 16 ⌝ }
+    requires { ⌜ level < levelCount ⌝ }
     ensures { λ r. ⌜ r ≡ waited level k ⌝ }
 {
     let mut t = k;
@@ -36,7 +37,7 @@ fn switched(c: Core, i: u16, p: u16) -> Core
 
 // The core c at the level, of which P is one further, after the instruction.
 pub fn controlled(level: u16, c: Core, o: ControlOp) -> Core
-    requires { ⌜ level < 16 ⌝ }
+    requires { ⌜ level < levelCount ⌝ }
     ensures { λ r. ⌜ r ≡ controlled level c o ⌝ }
 {
     let k = c.control;

@@ -3,7 +3,10 @@ ghost use mathlib.Core.Path.{_≡_};
 ghost use Prim.Native.Nat.{_<_};
 ghost use Rattle.isa.specs.System.{statusWord, internalWord, afterReading, read, withSts, written, cleared, masked};
 ghost use Rattle.isa.specs.System.{withPid, withPie, withInternal};
-ghost use Rattle.isa.specs.Machine.{withControl};
+ghost use Rattle.isa.specs.Machine.{levelCount, withControl};
+use isa::constant::ALL_ONES;
+use isa::constant::LEVELS;
+use isa::constant::STATUS_RANGE;
 use isa::instruction::Maskable;
 use isa::instruction::Readable;
 use isa::instruction::Writable;
@@ -15,12 +18,16 @@ use isa::machine::Register;
 fn status_word(level: u16, k: Control, sts: u16) -> u16
     ensures { λ r. ⌜ r ≡ statusWord level k sts ⌝ }
 {
-    k.interrupts % 2 * 32768 + k.paging % 2 * 16384 + 4096 + level % 16 * 256 + sts % 256
+    k.interrupts % 2 * 0o100000
+        + k.paging % 2 * 0o040000
+        + 0o010000
+        + level % LEVELS * 0o400
+        + sts % STATUS_RANGE
 }
 
 // TRA: what A gets.
 fn internal_word(level: u16, c: Core, r: Readable) -> u16
-    requires { ⌜ level < 16 ⌝ }
+    requires { ⌜ level < levelCount ⌝ }
     ensures { λ w. ⌜ w ≡ internalWord level c r ⌝ }
 {
     let k = c.control;
@@ -28,7 +35,7 @@ fn internal_word(level: u16, c: Core, r: Readable) -> u16
     match r {
         Readable::Status => status_word(level, k, f.get(Register::Sts)),
         Readable::Pgs => k.pgs,
-        Readable::Pvl => 55170 + k.pvl % 16 * 8,
+        Readable::Pvl => 0o153602 + k.pvl % LEVELS * 0o10,
         Readable::Iic => arithmetic::bits::highest(k.iid),
         Readable::Pid => k.pid,
         Readable::Pie => k.pie,
@@ -60,7 +67,7 @@ fn without_interrupts(k: Control) -> Control
 }
 
 pub fn read(level: u16, c: Core, r: Readable) -> Core
-    requires { ⌜ level < 16 ⌝ }
+    requires { ⌜ level < levelCount ⌝ }
     ensures { λ d. ⌜ d ≡ read level c r ⌝ }
 {
     let k = c.control;
@@ -74,7 +81,7 @@ fn with_sts(c: Core, w: u16) -> Core
     ensures { λ d. ⌜ d ≡ withSts c w ⌝ }
 {
     let f = c.file;
-    c.with_file(f.with(Register::Sts, w % 256))
+    c.with_file(f.with(Register::Sts, w % STATUS_RANGE))
 }
 
 fn with_iie(c: Core, w: u16) -> Core
@@ -121,7 +128,7 @@ pub fn cleared(c: Core, r: Maskable) -> Core
 {
     let f = c.file;
     let k = c.control;
-    let a = 65535 - f.get(Register::A);
+    let a = ALL_ONES - f.get(Register::A);
     match r {
         Maskable::Status => with_sts(c, f.get(Register::Sts) & a),
         Maskable::Pid => with_pid(c, k.pid & a),

@@ -2,6 +2,7 @@
 ghost use mathlib.Core.Path.{_≡_};
 ghost use Prim.Native.Nat.{_<_};
 ghost use Rattle.isa.specs.Step.{detected, interrupted, gives};
+use isa::constant::INTERNAL_LEVEL;
 use isa::machine::Control;
 use isa::machine::Core;
 
@@ -22,7 +23,7 @@ pub fn interrupted(n: u16, k: Control) -> Control
 {
     let mut t = detected(n, k);
     if arithmetic::bits::bit(n, k.iie) == 1 {
-        t.pid = arithmetic::bits::with_bit(14, 1, k.pid);
+        t.pid = arithmetic::bits::with_bit(INTERNAL_LEVEL, 1, k.pid);
         return t;
     }
     t

@@ -1,19 +1,20 @@
 // How a step of the running level ends.
 ghost use mathlib.Core.Path.{_≡_};
 ghost use mathlib.Core.Bool.{not};
-ghost use Rattle.event.specs.Events.{isFine};
+ghost use Rattle.event.specs.Events.{isFine, permitted};
 ghost use Rattle.event.specs.declared.Event.the-variants.{Fine};
 use isa::access::Translation;
 use isa::instruction::System;
 use isa::machine::File;
 
-// Well; by an access that failed; with the error interrupt, 5; or with an instruction that has to do with more than the
-// level's registers, its PCR, memory and tables.
+// Well; by an access that failed; with the error interrupt, 5; with a privileged instruction, on a ring that may execute
+// it or on one that may not (6); with MON; or with an illegal code.
 pub enum Event {
     Fine,
     Failed(Translation),
     Error,
     Privileged(System),
+    NotPrivileged,
     Monitor(i16),
     Illegal,
 }
@@ -48,7 +49,28 @@ pub fn ends(e: Event) -> bool
         Event::Failed(_) => true,
         Event::Error => true,
         Event::Privileged(_) => true,
+        Event::NotPrivileged => true,
         Event::Monitor(_) => true,
         Event::Illegal => true,
+    }
+}
+
+// The event, where a privileged instruction needs that the ring is privileged.
+pub fn permitted(privileged: bool, e: Event) -> Event
+    ensures { λ r. ⌜ r ≡ permitted privileged e ⌝ }
+{
+    match e {
+        Event::Fine => e,
+        Event::Failed(_) => e,
+        Event::Error => e,
+        Event::Privileged(_) => {
+            if privileged {
+                return e;
+            }
+            Event::NotPrivileged
+        }
+        Event::NotPrivileged => e,
+        Event::Monitor(_) => e,
+        Event::Illegal => e,
     }
 }

@@ -24,6 +24,7 @@ use Rattle.isa.specs.Pages.{Entry, entryAt, slotOf, somePermit, needed, ringAll
 use Rattle.isa.specs.Pages.{inWindow, translate, Tested, testAll, wordsAt, wordAt, rightsOf, passes, lowered}
 use Rattle.isa.specs.Pages.{loweredPcr}
 use Rattle.isa.specs.Step.{Part, finished, operands, operandsTested, indirectTested, userStage, failed, afterFetch}
+use Rattle.isa.specs.Step.{privileged}
 use Rattle.isa.specs.declared.access.Access.{Access}
 use Rattle.isa.specs.declared.access.Kind.the-variants.{Fetch, Indirect}
 use Rattle.isa.specs.declared.access.Rights.{Rights}
@@ -54,7 +55,7 @@ use Rattle.paging.proofs.Levels.{same-ring}
 use Rattle.paging.specs.Levels.{levelRights}
 use Rattle.paging.specs.Outcome.{Outcome}
 use Rattle.operand_words.specs.declared.operand.Operand.{Operand}
-use Rattle.event.specs.Events.{eventPart, endingOf, endedPart}
+use Rattle.event.specs.Events.{eventPart, endingOf, permitted, endedPart}
 use Rattle.event.specs.declared.Ending.{Ending}
 use Rattle.event.specs.declared.Event.{Event}
 use Rattle.event.specs.declared.Event.the-variants.{Fine, Error, Failed as Faulted}
@@ -264,17 +265,19 @@ module _ (c : Core) (m t : List ℕ) where
 
 -- the file is left as it is
 pub file-left : {c : Core} {f : File} {r : Rights} (l : ℕ) (m t : List ℕ) {z : Ending} {e : Event} → Executing c f r
-    → z ≡ record { file = f; event = e } → endedPart l c z m t ≡ eventPart l (nextCore c) m t e
+    → z ≡ record { file = f; event = e }
+    → endedPart l c z m t ≡ eventPart l (nextCore c) m t (permitted (privileged c) e)
 file-left {c} l m t {e = e} s q =
-    ap (λ (y : Ending). endedPart l c y m t) q ∙ ap (λ (g : File). eventPart l (withFile c g) m t e) (sym (s .file))
+    ap (λ (y : Ending). endedPart l c y m t) q
+    ∙ ap (λ (g : File). eventPart l (withFile c g) m t (permitted (privileged c) e)) (sym (s .file))
 
 -- an instruction that stores nothing ends with the error interrupt or well
 completed-part : (l : ℕ) (c : Core) (m t : List ℕ) (d : Completed)
     → endedPart l c (endingOf d) m t ≡ finished c m t [] d
-unfolding eventPart finished
+unfolding eventPart permitted finished
 completed-part l c m t d = go (d .error)
   where
-    go : (b : Bool) → eventPart l (withFile c (d .file)) m t (cond b Error Fine)
+    go : (b : Bool) → eventPart l (withFile c (d .file)) m t (permitted (privileged c) (cond b Error Fine))
         ≡ finished c m t [] (record { file = d .file; stores = d .stores; error = b })
     go true = refl
     go false = refl
@@ -305,7 +308,7 @@ module _ (f : File) (m t : List ℕ) (a : ℕ) (r : Rights) (o : MemoryOp) (md :
 
   pub memory-failed : (x : Translation) → e ≡ Failed x → z ≡ record { file = f; event = Faulted x }
       → UserStage f a r (Memory o md d) m t z m v
-  unfolding addressed eventPart
+  unfolding addressed eventPart permitted
   memory-failed x q n l c s = file-left l m v (s .executing) n ∙ ap (addressed c m v o) (sym q) ∙ h c o s
 
 -- ---- the fetch

@@ -7,6 +7,7 @@ ghost use Rattle.isa.specs.Machine.{withFlag, flagK};
 ghost use Rattle.isa.specs.Instructions.{isZero, putBit, bitCompletion, bitDone};
 use crate::operand;
 use crate::skip::skip_if;
+use isa::constant::FLAG_K;
 use isa::instruction::BitOp;
 use isa::machine::File;
 use isa::machine::Register;
@@ -37,7 +38,7 @@ fn put_k(f: File, k: u16) -> File
 {
     f.with(
         Register::Sts,
-        arithmetic::bits::with_bit(2, k, f.get(Register::Sts)),
+        arithmetic::bits::with_bit(FLAG_K, k, f.get(Register::Sts)),
     )
 }
 
@@ -104,6 +105,6 @@ pub fn bit_done(o: BitOp, f: File, n: u16, r: Register) -> File
         r,
         m,
         b,
-        arithmetic::bits::bit(2, f.get(Register::Sts)),
+        arithmetic::bits::bit(FLAG_K, f.get(Register::Sts)),
     )
 }

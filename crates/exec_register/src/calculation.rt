@@ -12,6 +12,9 @@ use event::Ending;
 use event::Event;
 use event::fine;
 use event::with_event;
+use isa::constant::ALL_ONES;
+use isa::constant::FLAG_Z;
+use isa::constant::WORD_RANGE;
 use isa::instruction::Argument;
 use isa::machine::File;
 use isa::machine::Register;
@@ -42,11 +45,14 @@ pub fn add_argument(f: File, r: Argument, n: i16) -> File
     sum::takes(f, t, f.get(t), arithmetic::signed::word_of(n), 0)
 }
 
+// The word -1.
+const MINUS_ONE: u32 = ALL_ONES as u32;
+
 // MIX3: X is (A - 1) * 3.
 pub fn mixed(f: File) -> File
     ensures { λ g. ⌜ g ≡ mixed f ⌝ }
 {
-    let x = (f.get(Register::A) as u32 + 65535) * 3 % 65536;
+    let x = (f.get(Register::A) as u32 + MINUS_ONE) * 3 % WORD_RANGE;
     f.with(Register::X, x as u16)
 }
 
@@ -58,22 +64,22 @@ pub fn register_product(f: File, s: Register, d: Register) -> File
         return f;
     }
     let p = arithmetic::product::multiply_double(operand::operand(f, s), operand::operand(f, d));
-    f.with(Register::A, (p / 65536) as u16)
-        .with(Register::D, (p % 65536) as u16)
+    f.with(Register::A, (p / WORD_RANGE) as u16)
+        .with(Register::D, (p % WORD_RANGE) as u16)
 }
 
 // A and D as one double word.
 pub fn double(f: File) -> u32
     ensures { λ n. ⌜ n ≡ doubleOf f ⌝ }
 {
-    f.get(Register::A) as u32 * 65536 + f.get(Register::D) as u32
+    f.get(Register::A) as u32 * WORD_RANGE + f.get(Register::D) as u32
 }
 
 // Z is set, and interrupt 5 is given.
 fn division_fails(f: File) -> Ending
     ensures { λ e. ⌜ e ≡ endingOf (failing f) ⌝ }
 {
-    let sts = arithmetic::bits::with_bit(3, 1, f.get(Register::Sts));
+    let sts = arithmetic::bits::with_bit(FLAG_Z, 1, f.get(Register::Sts));
     with_event(f.with(Register::Sts, sts), Event::Error)
 }
 

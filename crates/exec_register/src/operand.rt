@@ -8,6 +8,7 @@ ghost use Rattle.isa.specs.Instructions.{carryIn, added, skipIf};
 ghost use Rattle.isa.specs.declared.instruction.LogicOp.the-variants.{Swap};
 use crate::skip::skip_if;
 use crate::sum;
+use isa::constant::FLAG_C;
 use isa::instruction::CarryIn;
 use isa::instruction::LogicOp;
 use isa::instruction::Relation;
@@ -90,7 +91,7 @@ pub fn carry_in(c: CarryIn, f: File) -> u16
     match c {
         CarryIn::NoCarry => 0,
         CarryIn::One => 1,
-        CarryIn::Previous => arithmetic::bits::bit(6, f.get(Register::Sts)),
+        CarryIn::Previous => arithmetic::bits::bit(FLAG_C, f.get(Register::Sts)),
     }
 }
 
@@ -102,7 +103,7 @@ pub fn added(f: File, d: Register, y: u16, x: u16, c: u16) -> File
     if is_zero(d) {
         return f.with(
             Register::Sts,
-            arithmetic::bits::with_bit(6, 0, f.get(Register::Sts)),
+            arithmetic::bits::with_bit(FLAG_C, 0, f.get(Register::Sts)),
         );
     }
     sum::takes(f, d, y, x, c)

@@ -4,6 +4,8 @@ ghost use Rattle.isa.specs.Instructions.{shiftIn, shiftDouble, shifted};
 ghost use Rattle.exec_register.specs.Completion.{shiftRegister};
 use crate::calculation;
 use crate::operand;
+use isa::constant::FLAG_M;
+use isa::constant::WORD_RANGE;
 use isa::instruction::ShiftKind;
 use isa::instruction::ShiftTarget;
 use isa::machine::File;
@@ -14,8 +16,8 @@ fn shift_in(f: File, r: Register, k: ShiftKind, n: i16) -> File
     ensures { λ g. ⌜ g ≡ shiftIn f r k n ⌝ }
 {
     let sts = f.get(Register::Sts);
-    let s = arithmetic::shift::shift16(k, n, f.get(r), arithmetic::bits::bit(7, sts));
-    f.with(Register::Sts, arithmetic::bits::with_bit(7, s.m, sts))
+    let s = arithmetic::shift::shift16(k, n, f.get(r), arithmetic::bits::bit(FLAG_M, sts));
+    f.with(Register::Sts, arithmetic::bits::with_bit(FLAG_M, s.m, sts))
         .with(r, s.value as u16)
 }
 
@@ -24,11 +26,16 @@ fn shift_double(f: File, k: ShiftKind, n: i16) -> File
     ensures { λ g. ⌜ g ≡ shiftDouble f k n ⌝ }
 {
     let sts = f.get(Register::Sts);
-    let s = arithmetic::shift::shift32(k, n, calculation::double(f), arithmetic::bits::bit(7, sts));
-    let flagged = f.with(Register::Sts, arithmetic::bits::with_bit(7, s.m, sts));
+    let s = arithmetic::shift::shift32(
+        k,
+        n,
+        calculation::double(f),
+        arithmetic::bits::bit(FLAG_M, sts),
+    );
+    let flagged = f.with(Register::Sts, arithmetic::bits::with_bit(FLAG_M, s.m, sts));
     flagged
-        .with(Register::A, (s.value / 65536) as u16)
-        .with(Register::D, (s.value % 65536) as u16)
+        .with(Register::A, (s.value / WORD_RANGE) as u16)
+        .with(Register::D, (s.value % WORD_RANGE) as u16)
 }
 
 // The register of a shift of one word; STS stands for A and D.

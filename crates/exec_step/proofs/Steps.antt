@@ -9,23 +9,26 @@ use Rattle.isa.specs.Machine.{reg, next, normalTableOf}
 use Rattle.isa.specs.Decode.{decode}
 use Rattle.isa.specs.Address.{access}
 use Rattle.isa.specs.Pages.{inWindow, translate, marked, wordAt, rightsOf, passes, entryAt, slotOf, loweredPcr}
-use Rattle.isa.specs.Step.{executed, afterFetch, fetchOf, fetched, failed, instructionStage, stepIn}
+use Rattle.isa.specs.Machine.{interruptPrivileged}
+use Rattle.isa.specs.Step.{Part, executed, afterFetch, fetchOf, fetched, failed, trapped, privileged, systemStage}
+use Rattle.isa.specs.Step.{instructionStage, stepIn}
 use Rattle.isa.specs.declared.access.Kind.the-variants.{Fetch}
 use Rattle.isa.specs.declared.access.Rights.{Rights}
 use Rattle.isa.specs.declared.access.Translation.{Translation}
 use Rattle.isa.specs.declared.instruction.Instruction.{Instruction}
+use Rattle.isa.specs.declared.instruction.System.{System}
 use Rattle.isa.specs.declared.instruction.Instruction.the-variants.{Unprivileged, Privileged, Execute, Monitor, Illegal}
 use Rattle.isa.specs.declared.machine.Control.{Control}
 use Rattle.isa.specs.declared.machine.Core.{Core}
 use Rattle.isa.specs.declared.machine.File.{File}
 use Rattle.isa.specs.declared.machine.Register.the-variants.{Sts, P}
 use Rattle.decode.specs.Exr.{exrOf}
-use Rattle.paging.specs.Levels.{levelRights, byFlags, onRing}
+use Rattle.paging.specs.Levels.{levelRights, byFlags, onRing, privilegedBy}
 use Rattle.paging.proofs.Levels.{ring-rights, same-ring}
 use Rattle.paging.proofs.Outcomes.{Found, passes-zero, fails-other}
-use Rattle.event.specs.Events.{eventPart}
+use Rattle.event.specs.Events.{eventPart, permitted}
 use Rattle.event.specs.declared.Ending.{Ending}
-use Rattle.event.specs.declared.Event.the-variants.{Failed as Faulted}
+use Rattle.event.specs.declared.Event.the-variants.{Failed as Faulted, Privileged as ByRing}
 use Rattle.exec_memory.specs.Stages.{coreOf, ringAfter}
 use Rattle.exec_memory.proofs.Stages.{ring-is, ring-small}
 use Rattle.exec_step.specs.Steps.{InstructionStage, followedBy, followed, ExecutedWord, StepOfLevel}
@@ -40,6 +43,14 @@ executed-followed f w = go (decode w) refl
     go (Execute s) e = refl
     go (Monitor n) e = e
     go Illegal e = e
+
+-- a privileged instruction, on a ring that may execute it or on one that may not
+pub privileged-part : (l : ℕ) (c : Core) (m t : List ℕ) (q : System) (b : Bool)
+    → eventPart l c m t (permitted b (ByRing q))
+    ≡ cond b (systemStage l c m t q) (trapped interruptPrivileged c m t)
+unfolding eventPart permitted
+privileged-part l c m t q true = refl
+privileged-part l c m t q false = refl
 
 -- the instruction i of the word w was executed with the rights r, by PTM of the file f
 pub word-executed : (f : File) (m t : List ℕ) (a w : ℕ) (r : Rights) {q : Rights} {i : Instruction} (d : Ending)
@@ -107,12 +118,13 @@ module _ {f : File} {m t : List ℕ} {r : Rights} {ring : ℕ} {x : Translation}
       whole : fetched l c m v ring x ≡ stepIn l c m t
       whole = λ i. fetched l c m (v-is i) (ring-in i) (x-is i)
 
-  -- it passed, and the word w was executed on the ring q
-  pub step-passed : (q w : ℕ) (e : Ending) (m′ t′ : List ℕ) → n ≡ 0 → r .ring < 4 → q ≡ ringAfter r ring x
+  -- it passed, and the word w was executed on the ring q, which may execute privileged codes if b is true
+  pub step-passed : (q w : ℕ) (b : Bool) (e : Ending) (m′ t′ : List ℕ) → n ≡ 0 → r .ring < 4 → q ≡ ringAfter r ring x
+      → b ≡ privilegedBy (onRing r q)
       → w ≡ wordAt m v x
       → ExecutedWord (next f) (reg f P) (onRing r q) w m v e m′ t′
-      → StepOfLevel f r m t (record { file = e .file; ring = q; event = e .event }) m′ t′
-  step-passed q w e m′ t′ s z i j d l p k y =
+      → StepOfLevel f r m t (record { file = e .file; ring = q; event = permitted b (e .event) }) m′ t′
+  step-passed q w b e m′ t′ s z i g j d l p k y =
       let small : q < 4 = rw i (ring-small t (reg f P) r x z (h .entry)) in
       let lower : ℕ = loweredPcr p q in
       let rights : levelRights lower (k .paging) ≡ onRing r q =
@@ -120,7 +132,9 @@ module _ {f : File} {m t : List ℕ} {r : Rights} {ring : ℕ} {x : Translation}
       let core : coreOf f lower k ≡ afterFetch (coreOf f p k) ring x =
       ap (λ (u : ℕ). coreOf f (loweredPcr p u) k) i
       ∙ sym (ring-is f p k t (length m) (reg f P) y (h .found .place) (h .entry)) in
-      d l lower f k refl refl rights
+      ap (λ (u : Bool). eventPart l (coreOf (e .file) lower k) m′ t′ (permitted u (e .event)))
+      (g ∙ ap privilegedBy (sym rights))
+      ∙ d l lower f k refl refl rights
       ∙ ap (λ (c : Core). instructionStage l c m v (executed f (decode w))) core
       ∙ ap (λ (u : ℕ). instructionStage l (afterFetch (coreOf f p k) ring x) m v (executed f (decode u))) j
       ∙ fetched-step l p k true (passes-zero x (h .found .fault) s) y

@@ -7,6 +7,7 @@ ghost use lib.ListN.{length};
 ghost use Rattle.exec_step.specs.Steps.{StepOfLevel};
 use crate::instruction::executed_word;
 use event::Event;
+use event::permitted;
 use exec_memory::fetch::ring_after;
 use isa::access::Kind;
 use isa::access::Rights;
@@ -15,6 +16,7 @@ use isa::machine::Register;
 use paging::place::fault_of;
 use paging::place::word_at;
 use paging::rights::on_ring;
+use paging::rights::privileged;
 use paging::translation::ring_at;
 use paging::translation::translate;
 
@@ -42,9 +44,10 @@ pub fn step_in(f: File, r: Rights, mem: &mut [u16], tables: &mut [u16]) -> Level
     if fault_of(x) == 0 {
         let w = word_at(mem, tables, x);
         let q = ring_after(r, ring, x);
-        let e = executed_word(f.next(), at, on_ring(r, q), mem, tables, w);
+        let s = on_ring(r, q);
+        let e = executed_word(f.next(), at, s, mem, tables, w);
         let file = e.file;
-        let event = e.event;
+        let event = permitted(privileged(s), e.event);
         return LevelStep {
             file: file,
             ring: q,

@@ -4,6 +4,9 @@ ghost use Prim.Native.Nat.{_+_, _*_, _≤_, _<_};
 ghost use lib.ListN.{length, getD};
 ghost use Rattle.isa.specs.Images.{twoWords, contentsFit};
 ghost use Rattle.image_directory.specs.Entries.{spanEntry, entryAt};
+use isa::constant::ENTRY_SIZE;
+use isa::constant::MOST_ENTRIES;
+use isa::constant::WORD_RANGE;
 
 // An entry: kind, start and length.
 pub struct Span {
@@ -16,7 +19,7 @@ pub struct Span {
 fn two_words(high: u16, low: u16) -> u32
     ensures { λ r. ⌜ r ≡ twoWords high low ⌝ }
 {
-    high as u32 * 65536 + low as u32
+    high as u32 * WORD_RANGE + low as u32
 }
 
 // A number that is an index or a length.
@@ -47,7 +50,7 @@ pub fn entry_at(image: &[u16], k: usize) -> Span
     requires { ⌜ k * 5 + 6 ≤ length (now image) ⌝ }
     ensures { λ r. ⌜ spanEntry r ≡ entryAt k (now (image .entry)) ⌝ }
 {
-    let at = 1 + k * 5;
+    let at = 1 + k * ENTRY_SIZE;
     Span {
         kind: image[at],
         start: two_words(image[at + 1], image[at + 2]),
@@ -63,8 +66,8 @@ pub fn contents_fit(image: &[u16]) -> bool
         return false;
     }
     let n = entry_count(image);
-    if 32 < n {
+    if MOST_ENTRIES < n {
         return false;
     }
-    1 + n * 5 <= image.len()
+    1 + n * ENTRY_SIZE <= image.len()
 }

@@ -16,6 +16,14 @@ use crate::entry::wide;
 use checks::answers::first;
 use isa::answer::Answer;
 use isa::answer::Refusal;
+use isa::constant::CONTROL_COUNT;
+use isa::constant::ENTRY_SIZE;
+use isa::constant::KIND_CONTROL;
+use isa::constant::KIND_MEMORY;
+use isa::constant::KIND_REGISTERS;
+use isa::constant::KIND_TABLES;
+use isa::constant::REGISTER_WORDS;
+use isa::constant::TABLE_WORDS;
 
 // Start plus length, which no words make wrap.
 fn end(start: u32, count: u32) -> usize
@@ -28,26 +36,26 @@ fn end(start: u32, count: u32) -> usize
 fn known_kind(k: u16) -> bool
     ensures { λ r. ⌜ r ≡ knownKind k ⌝ }
 {
-    if k < 1 {
+    if k < KIND_MEMORY {
         return false;
     }
-    k <= 4
+    k <= KIND_TABLES
 }
 
 // A kind's size.
 fn size_of(words: usize, k: u16) -> usize
     ensures { λ r. ⌜ r ≡ sizeOf words k ⌝ }
 {
-    if k == 1 {
+    if k == KIND_MEMORY {
         return words;
     }
-    if k == 2 {
-        return 128;
+    if k == KIND_REGISTERS {
+        return REGISTER_WORDS;
     }
-    if k == 3 {
-        return 26;
+    if k == KIND_CONTROL {
+        return CONTROL_COUNT;
     }
-    256
+    TABLE_WORDS
 }
 
 // Refusals 5 and 6 of an entry, beside so many words of memory.
@@ -158,7 +166,7 @@ fn body_answer(image: &[u16], n: usize) -> Answer
     requires { ⌜ n ≤ 32 ⌝ }
     ensures { λ r. ⌜ r ≡ bodyAnswer n (now (image .entry)) ⌝ }
 {
-    if named_words(image, n) == image.len() - (1 + n * 5) {
+    if named_words(image, n) == image.len() - (1 + n * ENTRY_SIZE) {
         return Answer::Done;
     }
     Answer::Refused(Refusal::Bodies)

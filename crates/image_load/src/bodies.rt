@@ -5,13 +5,20 @@ ghost use Prim.Native.Nat.{_+_, _≤_};
 ghost use lib.ListN.{length, getD, take, drop};
 ghost use lib.Seq.{paste};
 ghost use lib.Dec.{eqb};
-ghost use Rattle.isa.specs.Machine.{stateOf};
-ghost use Rattle.isa.specs.Images.{contents, bodies, placed, loadedWords, loadedState};
+ghost use Rattle.isa.specs.Machine.{registerWords, stateWords, controlCount, stateOf};
+ghost use Rattle.isa.specs.Images.{kindRegisters, kindControl, contents, bodies, placed, loadedWords, loadedState};
 ghost use Rattle.image_load.specs.Placing.{Placeable};
 use image_directory::entry::Span;
 use image_directory::entry::entry_at;
 use image_directory::entry::entry_count;
 use image_directory::entry::wide;
+use isa::constant::CONTROL_COUNT;
+use isa::constant::ENTRY_SIZE;
+use isa::constant::FIRST_PCR;
+use isa::constant::KIND_CONTROL;
+use isa::constant::KIND_REGISTERS;
+use isa::constant::LEVEL_COUNT;
+use isa::constant::REGISTER_WORDS;
 use isa::machine::Control;
 use isa::machine::State;
 use words::clear;
@@ -41,7 +48,7 @@ fn place(kind: u16, image: &[u16], n: usize, target: &mut [u16])
         ≡ placed kind (contents (now (image .entry))) (bodies (now (image .entry))) (now (target .entry)) ⌝ }
 {
     let mut k = 0;
-    let mut at = 1 + n * 5;
+    let mut at = 1 + n * ENTRY_SIZE;
     while k < n {
         let e = entry_at(image, k);
         place_one(kind, e, image, at, target);
@@ -61,16 +68,16 @@ pub fn fill(kind: u16, image: &[u16], target: &mut [u16])
 }
 
 // Registers and control words in image order.
-pub type RegisterWords = [u16; 128];
+pub type RegisterWords = [u16; REGISTER_WORDS];
 
-pub type ControlWords = [u16; 26];
+pub type ControlWords = [u16; CONTROL_COUNT];
 
 // The state of registers and control words in image order.
 pub fn state_of(regs: RegisterWords, words: ControlWords) -> State
     ensures { λ s. ⌜ s ≡ stateOf regs words ⌝ }
 {
-    let mut pcrs = [0u16; 16];
-    copy(&mut pcrs, 0, &words, 10, 16);
+    let mut pcrs = [0u16; LEVEL_COUNT];
+    copy(&mut pcrs, 0, &words, FIRST_PCR, LEVEL_COUNT);
     let c = Control {
         interrupts: words[1],
         paging: words[2],
@@ -92,25 +99,25 @@ pub fn state_of(regs: RegisterWords, words: ControlWords) -> State
 
 // The state of 154 words in image order: the registers, then the control words.
 pub fn state_in(words: &[u16]) -> State
-    requires { ⌜ length (now words) ≡ 154 ⌝ }
-    ensures { λ s. ⌜ s ≡ stateOf (take 128 (now (words .entry))) (drop 128 (now (words .entry))) ⌝ }
+    requires { ⌜ length (now words) ≡ stateWords ⌝ }
+    ensures { λ s. ⌜ s ≡ stateOf (take registerWords (now (words .entry))) (drop registerWords (now (words .entry))) ⌝ }
 {
-    let mut regs = [0u16; 128];
-    let mut control = [0u16; 26];
-    copy(&mut regs, 0, words, 0, 128);
-    copy(&mut control, 0, words, 128, 26);
+    let mut regs = [0u16; REGISTER_WORDS];
+    let mut control = [0u16; CONTROL_COUNT];
+    copy(&mut regs, 0, words, 0, REGISTER_WORDS);
+    copy(&mut control, 0, words, REGISTER_WORDS, CONTROL_COUNT);
     state_of(regs, control)
 }
 
 // The state that an image has.
 pub fn loaded_state(image: &[u16]) -> State
-    requires { ⌜ Placeable 2 128 (now image) ⌝ }
-    requires { ⌜ Placeable 3 26 (now image) ⌝ }
+    requires { ⌜ Placeable kindRegisters registerWords (now image) ⌝ }
+    requires { ⌜ Placeable kindControl controlCount (now image) ⌝ }
     ensures { λ s. ⌜ s ≡ loadedState (now (image .entry)) ⌝ }
 {
-    let mut regs = [0u16; 128];
-    let mut words = [0u16; 26];
-    fill(2, image, &mut regs);
-    fill(3, image, &mut words);
+    let mut regs = [0u16; REGISTER_WORDS];
+    let mut words = [0u16; CONTROL_COUNT];
+    fill(KIND_REGISTERS, image, &mut regs);
+    fill(KIND_CONTROL, image, &mut words);
     state_of(regs, words)
 }

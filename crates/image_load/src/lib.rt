@@ -8,6 +8,8 @@ use crate::loading::range_answer;
 use crate::loading::store;
 use checks::answers::first;
 use isa::answer::Answer;
+use isa::constant::KIND_MEMORY;
+use isa::constant::KIND_TABLES;
 use isa::machine::State;
 
 pub mod bodies;
@@ -45,7 +47,7 @@ pub fn load(s: State, image: &[u16], mem: &mut [u16], tables: &mut [u16]) -> Loa
     let a = image_answer(image, mem, tables);
     let t = image_state(a, s, image);
     let b = first(a, range_answer(t));
-    store(b, 1, image, mem);
-    store(b, 4, image, tables);
+    store(b, KIND_MEMORY, image, mem);
+    store(b, KIND_TABLES, image, tables);
     left_by(b, t, s)
 }

@@ -1,12 +1,12 @@
 // The machine written as an image: contents, then memory, registers, control words and page tables.
-ghost use Rattle.isa.specs.Machine.{tableWords};
+ghost use Rattle.isa.specs.Machine.{largestMemory, stateWords, tableWords};
 ghost use mathlib.Core.Path.{_≡_};
 ghost use mathlib.Core.List.{_∷_, [], _++_};
 ghost use Prim.Native.Nat.{_+_, _≤_};
 ghost use lib.ListN.{length, drop};
 ghost use lib.Seq.{paste};
 ghost use Rattle.isa.specs.Machine.{controlWords};
-ghost use Rattle.isa.specs.Images.{contentsWords, imageOf, imageSize};
+ghost use Rattle.isa.specs.Images.{contentsSize, contentsWords, imageOf, imageSize};
 ghost use Rattle.isa.specs.Answers.{stateAnswer, writeAnswer, writtenOutput};
 ghost use Rattle.checks.specs.Answers.{firstOf};
 ghost use Rattle.image_write.specs.Writing.{roomAnswer};
@@ -14,43 +14,74 @@ use checks::answers::first;
 use checks::state_answer;
 use isa::answer::Answer;
 use isa::answer::Refusal;
+use isa::constant::BESIDE_MEMORY;
+use isa::constant::CONTENTS_SIZE;
+use isa::constant::CONTROL_COUNT;
+use isa::constant::FIRST_PCR;
+use isa::constant::KIND_CONTROL;
+use isa::constant::KIND_MEMORY;
+use isa::constant::KIND_REGISTERS;
+use isa::constant::KIND_TABLES;
+use isa::constant::LEVEL_COUNT;
+use isa::constant::REGISTER_WORDS;
+use isa::constant::STATE_WORDS;
+use isa::constant::TABLE_WORDS;
+use isa::constant::WORD_RANGE;
+use isa::constant::WRITTEN_ENTRIES;
 use isa::machine::State;
 use words::copy;
 
+// Where the PCRs stand among a state's words, and the page tables among an image's words beside memory.
+const PCR_PLACE: usize = REGISTER_WORDS + FIRST_PCR;
+
+const TABLE_PLACE: usize = CONTENTS_SIZE + STATE_WORDS;
+
+// Numbers of the list of contents as words: its entries, and the lengths of three of them.
+const COUNT: u16 = WRITTEN_ENTRIES as u16;
+
+const REGISTERS: u16 = REGISTER_WORDS as u16;
+
+const CONTROLS: u16 = CONTROL_COUNT as u16;
+
+const TABLES: u16 = TABLE_WORDS as u16;
+
+// What a word is below, as a size.
+const RANGE: usize = WORD_RANGE as usize;
+
 // The contents of an image of n words of memory: four full entries.
-fn contents(n: usize) -> [u16; 21]
-    requires { ⌜ n ≤ 524288 ⌝ }
+fn contents(n: usize) -> [u16; CONTENTS_SIZE]
+    requires { ⌜ n ≤ largestMemory ⌝ }
     ensures { λ r. ⌜ r ≡ contentsWords n ⌝ }
 {
-    let high = (n / 65536) as u16;
-    let low = (n % 65536) as u16;
+    let high = (n / RANGE) as u16;
+    let low = (n % RANGE) as u16;
     [
-        4,
-        1,
+        COUNT,
+        KIND_MEMORY,
         0,
         0,
         high,
         low,
-        2,
+        KIND_REGISTERS,
         0,
         0,
         0,
-        128,
-        3,
+        REGISTERS,
+        KIND_CONTROL,
         0,
         0,
         0,
-        26,
-        4,
+        CONTROLS,
+        KIND_TABLES,
         0,
         0,
         0,
-        256,
+        TABLES,
     ]
 }
 
 // The control words 0 to 9.
-pub type Scalars = [u16; 10];
+pub type Scalars = [u16; FIRST_PCR];
 
 pub fn scalars_of(s: State) -> Scalars
     ensures { λ r. ⌜ r ≡ s .level ∷ s .control .interrupts ∷ s .control .paging ∷ s .control .stopped ∷ s .control .pid
@@ -73,34 +104,34 @@ pub fn scalars_of(s: State) -> Scalars
 
 // Contents and memory, at the front of the output.
 fn put_memory(mem: &[u16], out: &mut [u16])
-    requires { ⌜ length (now mem) ≤ 524288 ⌝ }
-    requires { ⌜ length (now mem) + 21 ≤ length (now out) ⌝ }
+    requires { ⌜ length (now mem) ≤ largestMemory ⌝ }
+    requires { ⌜ length (now mem) + contentsSize ≤ length (now out) ⌝ }
     ensures { λ _. ⌜ now (out .exit)
         ≡ (contentsWords (length (now (mem .entry))) ++ now (mem .entry))
-        ++ drop (length (now (mem .entry)) + 21) (now (out .entry)) ⌝ }
+        ++ drop (length (now (mem .entry)) + contentsSize) (now (out .entry)) ⌝ }
 {
     let n = mem.len();
     let c = contents(n);
-    copy(out, 0, &c, 0, 21);
-    copy(out, 21, mem, 0, n);
+    copy(out, 0, &c, 0, CONTENTS_SIZE);
+    copy(out, CONTENTS_SIZE, mem, 0, n);
 }
 
 // Registers and control words, to the words of the output at `at`.
 pub fn put_state(s: State, out: &mut [u16], at: usize)
-    requires { ⌜ at + 154 ≤ length (now out) ⌝ }
-    ensures { λ _. ⌜ now (out .exit) ≡ paste (now (out .entry)) at (s .regs ++ controlWords s) 154 ⌝ }
+    requires { ⌜ at + stateWords ≤ length (now out) ⌝ }
+    ensures { λ _. ⌜ now (out .exit) ≡ paste (now (out .entry)) at (s .regs ++ controlWords s) stateWords ⌝ }
 {
     let r = s.regs;
     let k = scalars_of(s);
     let p = s.pcr;
-    copy(out, at, &r, 0, 128);
-    copy(out, at + 128, &k, 0, 10);
-    copy(out, at + 138, &p, 0, 16);
+    copy(out, at, &r, 0, REGISTER_WORDS);
+    copy(out, at + REGISTER_WORDS, &k, 0, FIRST_PCR);
+    copy(out, at + PCR_PLACE, &p, 0, LEVEL_COUNT);
 }
 
 // The image, at the front of the output.
 pub fn put_image(s: State, mem: &[u16], tables: &[u16], out: &mut [u16])
-    requires { ⌜ length (now mem) ≤ 524288 ⌝ }
+    requires { ⌜ length (now mem) ≤ largestMemory ⌝ }
     requires { ⌜ length (now tables) ≡ tableWords ⌝ }
     requires { ⌜ imageSize (now mem) ≤ length (now out) ⌝ }
     ensures { λ _. ⌜ now (out .exit)
@@ -109,18 +140,18 @@ pub fn put_image(s: State, mem: &[u16], tables: &[u16], out: &mut [u16])
 {
     let n = mem.len();
     put_memory(mem, out);
-    put_state(s, out, n + 21);
-    copy(out, n + 175, tables, 0, 256);
+    put_state(s, out, n + CONTENTS_SIZE);
+    copy(out, n + TABLE_PLACE, tables, 0, TABLE_WORDS);
 }
 
 // Refusal 10: an output of so many words is too short for an image of so much memory.
 fn room_answer(words: usize, size: usize) -> Answer
     ensures { λ r. ⌜ r ≡ roomAnswer words size ⌝ }
 {
-    if size < 431 {
+    if size < BESIDE_MEMORY {
         return Answer::Refused(Refusal::Output);
     }
-    if size - 431 < words {
+    if size - BESIDE_MEMORY < words {
         return Answer::Refused(Refusal::Output);
     }
     Answer::Done

@@ -49,6 +49,10 @@ firstPcr = 10
 abbrev pub controlCount : ℕ
 controlCount = 26
 
+-- registers and control words together: a state's words
+abbrev pub stateWords : ℕ
+stateWords = registerWords + controlCount
+
 -- "Lent memory: words in pages of 1,024, at least one page, at most 524,288 words. Lent page tables: 256 words, four
 -- tables of 64 entries."
 abbrev pub pageWords : ℕ

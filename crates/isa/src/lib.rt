@@ -2,6 +2,7 @@
 // answers. No engine code.
 pub mod access;
 pub mod answer;
+pub mod constant;
 pub mod instruction;
 pub mod machine;
 pub mod number;

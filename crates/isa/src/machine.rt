@@ -2,6 +2,16 @@
 ghost use mathlib.Core.Path.{_≡_};
 ghost use Prim.Native.Nat.{_<_};
 ghost use Rattle.isa.specs.Machine.{number, reg, withReg, next, withFile, withPcr, withControl};
+use crate::constant::LEVEL_COUNT;
+use crate::constant::NUMBER_A;
+use crate::constant::NUMBER_B;
+use crate::constant::NUMBER_D;
+use crate::constant::NUMBER_L;
+use crate::constant::NUMBER_P;
+use crate::constant::NUMBER_STS;
+use crate::constant::NUMBER_T;
+use crate::constant::NUMBER_X;
+use crate::constant::REGISTER_WORDS;
 
 // The registers of a level, in the order of their numbers 0 to 7.
 pub enum Register {
@@ -21,14 +31,14 @@ impl Register {
         ensures { λ r. ⌜ r < 8 ⌝ }
     {
         match self {
-            Register::Sts => 0,
-            Register::D => 1,
-            Register::P => 2,
-            Register::B => 3,
-            Register::L => 4,
-            Register::A => 5,
-            Register::T => 6,
-            Register::X => 7,
+            Register::Sts => NUMBER_STS,
+            Register::D => NUMBER_D,
+            Register::P => NUMBER_P,
+            Register::B => NUMBER_B,
+            Register::L => NUMBER_L,
+            Register::A => NUMBER_A,
+            Register::T => NUMBER_T,
+            Register::X => NUMBER_X,
         }
     }
 }
@@ -117,10 +127,10 @@ pub struct Control {
 
 // The machine as callers hand it in and get it back: register n of a level is word 8 * level + n.
 pub struct State {
-    pub regs: [u16; 128],
+    pub regs: [u16; REGISTER_WORDS],
     pub level: u16,
     pub control: Control,
-    pub pcr: [u16; 16],
+    pub pcr: [u16; LEVEL_COUNT],
 }
 
 // What an instruction of the running level works on: the level's registers, its PCR, and the control words 1 to 9.

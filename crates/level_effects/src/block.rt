@@ -18,6 +18,8 @@ ghost use Rattle.level_effects.specs.Settled.{leaving, turnOf};
 use crate::settle::Settled;
 use isa::access::Kind;
 use isa::access::Translation;
+use isa::constant::LEVELS;
+use isa::constant::STATUS_RANGE;
 use isa::machine::Core;
 use isa::machine::File;
 use isa::machine::Register;
@@ -35,7 +37,7 @@ use trap::faulted;
 
 // The running level's registers are put back, and the accesses of the block from the address in X on are tested.
 fn tested(level: u16, c: Core, regs: &mut [u16], words: usize, tables: &mut [u16], k: Kind) -> Block
-    requires { ⌜ level < 16 ⌝ }
+    requires { ⌜ level < levelCount ⌝ }
     requires { ⌜ length (now regs) ≡ registerWords ⌝ }
     requires { ⌜ length (now tables) ≡ tableWords ⌝ }
     ensures { λ b. ⌜ BlockTest level c k (now (regs .entry)) words (now (tables .entry)) b (now (regs .exit))
@@ -53,7 +55,7 @@ fn block_words(regs: &[u16], l: u16) -> BlockWords
     requires { ⌜ length (now regs) ≡ registerWords ⌝ }
     ensures { λ w. ⌜ ((s : State) → listOf w ≡ blockWords (withRegs s (now (regs .entry))) l blockOrder) ⌝ }
 {
-    let f = file_at(regs, l % 16);
+    let f = file_at(regs, l % LEVELS);
     BlockWords {
         p: f.get(Register::P),
         x: f.get(Register::X),
@@ -86,7 +88,7 @@ fn with_block(f: File, own: bool, w: BlockWords) -> File
         .with(Register::A, w.a)
         .with(Register::D, w.d)
         .with(Register::L, w.l)
-        .with(Register::Sts, w.sts % 256)
+        .with(Register::Sts, w.sts % STATUS_RANGE)
         .with(Register::B, w.b)
 }
 
@@ -96,8 +98,8 @@ fn put_block(level: u16, regs: &mut [u16], l: u16, w: BlockWords)
     ensures { λ _. ⌜ ((s : State) → s .level ≡ level → withRegs s (now (regs .exit))
         ≡ putBlock (withRegs s (now (regs .entry))) l blockOrder (listOf w)) ⌝ }
 {
-    let f = file_at(regs, l % 16);
-    put_file(regs, l % 16, with_block(f, l % 16 == level, w));
+    let f = file_at(regs, l % LEVELS);
+    put_file(regs, l % LEVELS, with_block(f, l % LEVELS == level, w));
 }
 
 // An access of the block failed: the fault is the running level's.
@@ -119,7 +121,7 @@ pub fn block_stored(
     tables: &mut [u16],
     l: u16,
 ) -> Settled
-    requires { ⌜ level < 16 ⌝ }
+    requires { ⌜ level < levelCount ⌝ }
     requires { ⌜ length (now regs) ≡ registerWords ⌝ }
     requires { ⌜ length (now tables) ≡ tableWords ⌝ }
     ensures { λ r. ⌜ ((p : List ℕ) → length p ≡ levelCount
@@ -145,7 +147,7 @@ pub fn block_loaded(
     tables: &mut [u16],
     l: u16,
 ) -> Settled
-    requires { ⌜ level < 16 ⌝ }
+    requires { ⌜ level < levelCount ⌝ }
     requires { ⌜ length (now regs) ≡ registerWords ⌝ }
     requires { ⌜ length (now tables) ≡ tableWords ⌝ }
     ensures { λ r. ⌜ ((p : List ℕ) → length p ≡ levelCount

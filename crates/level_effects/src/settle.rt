@@ -42,7 +42,7 @@ pub fn settle(
     mem: &mut [u16],
     tables: &mut [u16],
 ) -> Settled
-    requires { ⌜ level < 16 ⌝ }
+    requires { ⌜ level < levelCount ⌝ }
     requires { ⌜ length (now regs) ≡ registerWords ⌝ }
     requires { ⌜ length (now pcrs) ≡ levelCount ⌝ }
     requires { ⌜ length (now tables) ≡ tableWords ⌝ }

@@ -24,7 +24,7 @@ pub struct Advanced {
 // The highest level in PID and PIE, 0 if none.
 fn highest_level(k: Control) -> u16
     ensures { λ l. ⌜ l ≡ highestLevel k ⌝ }
-    ensures { λ l. ⌜ l < 16 ⌝ }
+    ensures { λ l. ⌜ l < levelCount ⌝ }
 {
     bits::highest(k.pid & k.pie)
 }
@@ -41,10 +41,10 @@ pub fn change_due(level: u16, k: Control) -> bool
 
 // PVL takes the old level, the new one runs: its words are taken out of the lent ones.
 pub fn changed(level: u16, c: Core, regs: &mut [u16], pcrs: &mut [u16]) -> Advanced
-    requires { ⌜ level < 16 ⌝ }
+    requires { ⌜ level < levelCount ⌝ }
     requires { ⌜ length (now regs) ≡ registerWords ⌝ }
     requires { ⌜ length (now pcrs) ≡ levelCount ⌝ }
-    ensures { λ r. ⌜ (r .level < 16) × (r .before ≡ 0) ⌝ }
+    ensures { λ r. ⌜ (r .level < levelCount) × (r .before ≡ 0) ⌝ }
     ensures { λ r. ⌜ ((m t : List ℕ) → advancedTurn r (now (regs .exit)) (now (pcrs .exit)) m t
         ≡ turn (levelChanged (pack level c (now (regs .entry)) (now (pcrs .entry)))) 0 m t) ⌝ }
 {

@@ -1,10 +1,20 @@
 // A level's words: taken out of those of all levels, and put back; the change of level; registers and PCRs of other
 // levels: MON, IRR, IRW, TRA PGC, TRR PCR.
-ghost use Rattle.isa.specs.Machine.{registerWords};
+ghost use Rattle.isa.specs.Machine.{levelCount, registerWords};
 ghost use mathlib.Core.Path.{_≡_};
 ghost use Prim.Native.Nat.{_<_};
 ghost use lib.ListN.{length};
 ghost use Rattle.isa.specs.Machine.{fileAt, putFile, coreOf, pack};
+use isa::constant::FILE_SIZE;
+use isa::constant::LEVEL_COUNT;
+use isa::constant::NUMBER_A;
+use isa::constant::NUMBER_B;
+use isa::constant::NUMBER_D;
+use isa::constant::NUMBER_L;
+use isa::constant::NUMBER_P;
+use isa::constant::NUMBER_T;
+use isa::constant::NUMBER_X;
+use isa::constant::REGISTER_WORDS;
 use isa::machine::Core;
 use isa::machine::File;
 use isa::machine::Register;
@@ -16,43 +26,43 @@ pub mod registers;
 
 // A level's registers.
 pub fn file_at(regs: &[u16], level: u16) -> File
-    requires { ⌜ level < 16 ⌝ }
+    requires { ⌜ level < levelCount ⌝ }
     requires { ⌜ length (now regs) ≡ registerWords ⌝ }
     ensures { λ f. ⌜ f ≡ fileAt (now (regs .entry)) level ⌝ }
 {
-    let i = level as usize * 8;
+    let i = level as usize * FILE_SIZE;
     File {
-        p: regs[i + 2],
-        a: regs[i + 5],
-        b: regs[i + 3],
-        l: regs[i + 4],
-        d: regs[i + 1],
-        t: regs[i + 6],
-        x: regs[i + 7],
+        p: regs[i + NUMBER_P],
+        a: regs[i + NUMBER_A],
+        b: regs[i + NUMBER_B],
+        l: regs[i + NUMBER_L],
+        d: regs[i + NUMBER_D],
+        t: regs[i + NUMBER_T],
+        x: regs[i + NUMBER_X],
         sts: regs[i],
     }
 }
 
 // All registers with a level's replaced.
 pub fn put_file(regs: &mut [u16], level: u16, f: File)
-    requires { ⌜ level < 16 ⌝ }
+    requires { ⌜ level < levelCount ⌝ }
     requires { ⌜ length (now regs) ≡ registerWords ⌝ }
     ensures { λ _. ⌜ now (regs .exit) ≡ putFile (now (regs .entry)) level f ⌝ }
 {
-    let i = level as usize * 8;
+    let i = level as usize * FILE_SIZE;
     regs[i] = f.get(Register::Sts);
-    regs[i + 1] = f.get(Register::D);
-    regs[i + 2] = f.get(Register::P);
-    regs[i + 3] = f.get(Register::B);
-    regs[i + 4] = f.get(Register::L);
-    regs[i + 5] = f.get(Register::A);
-    regs[i + 6] = f.get(Register::T);
-    regs[i + 7] = f.get(Register::X);
+    regs[i + NUMBER_D] = f.get(Register::D);
+    regs[i + NUMBER_P] = f.get(Register::P);
+    regs[i + NUMBER_B] = f.get(Register::B);
+    regs[i + NUMBER_L] = f.get(Register::L);
+    regs[i + NUMBER_A] = f.get(Register::A);
+    regs[i + NUMBER_T] = f.get(Register::T);
+    regs[i + NUMBER_X] = f.get(Register::X);
 }
 
 // The running level's words out of a state.
 pub fn opened(s: State) -> Core
-    requires { ⌜ s .level < 16 ⌝ }
+    requires { ⌜ s .level < levelCount ⌝ }
     ensures { λ c. ⌜ c ≡ coreOf s ⌝ }
 {
     let level = s.level;
@@ -68,13 +78,13 @@ pub fn opened(s: State) -> Core
 }
 
 // The registers and the PCRs of all levels.
-pub type AllRegisters = [u16; 128];
+pub type AllRegisters = [u16; REGISTER_WORDS];
 
-pub type AllPcrs = [u16; 16];
+pub type AllPcrs = [u16; LEVEL_COUNT];
 
 // The state of the running level's words and those of all levels.
 pub fn closed(level: u16, c: Core, regs: AllRegisters, pcrs: AllPcrs) -> State
-    requires { ⌜ level < 16 ⌝ }
+    requires { ⌜ level < levelCount ⌝ }
     ensures { λ s. ⌜ s ≡ pack level c regs pcrs ⌝ }
 {
     let mut b = regs;

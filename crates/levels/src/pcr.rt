@@ -8,20 +8,21 @@ ghost use Rattle.isa.specs.Machine.{pack, pcrMask};
 ghost use Rattle.isa.specs.Step.{pcrLevel, withPcrs};
 ghost use Rattle.isa.specs.Decode.{fourOf};
 ghost use Rattle.levels.specs.Words.{ownA, withA};
+use isa::constant::LEVELS;
 use isa::machine::Core;
 use isa::machine::Register;
 
 // A PCR's level is in A bits 6-3.
 fn pcr_place(a: u16) -> usize
     ensures { λ i. ⌜ i ≡ fourOf a ⌝ }
-    ensures { λ i. ⌜ i < 16 ⌝ }
+    ensures { λ i. ⌜ i < levelCount ⌝ }
 {
-    (a / 8 % 16) as usize
+    (a / 8 % LEVELS) as usize
 }
 
 // TRA PGC: the PCR of the level in A, to A.
 pub fn pcr_read(level: u16, c: Core, pcrs: &mut [u16]) -> Core
-    requires { ⌜ level < 16 ⌝ }
+    requires { ⌜ level < levelCount ⌝ }
     requires { ⌜ length (now pcrs) ≡ levelCount ⌝ }
     ensures { λ d. ⌜ ((b : List ℕ) → length b ≡ registerWords → pack level d b (now (pcrs .exit))
         ≡ withA (pack level c b (now (pcrs .entry)))
@@ -36,7 +37,7 @@ pub fn pcr_read(level: u16, c: Core, pcrs: &mut [u16]) -> Core
 
 // TRR PCR: A to the PCR of the level in A.
 pub fn pcr_written(level: u16, c: Core, pcrs: &mut [u16]) -> Core
-    requires { ⌜ level < 16 ⌝ }
+    requires { ⌜ level < levelCount ⌝ }
     requires { ⌜ length (now pcrs) ≡ levelCount ⌝ }
     ensures { λ d. ⌜ ((b : List ℕ) → length b ≡ registerWords → pack level d b (now (pcrs .exit))
         ≡ withPcrs (pack level c b (now (pcrs .entry)))

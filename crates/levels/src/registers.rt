@@ -1,5 +1,5 @@
 // Registers of other levels. The running level's are among the lent ones here.
-ghost use Rattle.isa.specs.Machine.{registerWords};
+ghost use Rattle.isa.specs.Machine.{levelCount, registerWords};
 ghost use mathlib.Core.Path.{_≡_};
 ghost use mathlib.Core.Bool.{cond, _&&_};
 ghost use mathlib.Core.List.{List};
@@ -11,6 +11,11 @@ ghost use Rattle.isa.specs.Step.{placeOf, kept, isP, withRegs, registerAt, putO
 ghost use Rattle.levels.specs.Words.{ownA, withA, withCall};
 use crate::file_at;
 use crate::put_file;
+use isa::constant::INTERNAL_LEVEL;
+use isa::constant::LEVELS;
+use isa::constant::NUMBER_P;
+use isa::constant::NUMBER_STS;
+use isa::constant::STATUS_RANGE;
 use isa::machine::Core;
 use isa::machine::Register;
 
@@ -18,8 +23,8 @@ use isa::machine::Register;
 fn kept(r: Register, w: u16) -> u16
     ensures { λ v. ⌜ v ≡ kept r w ⌝ }
 {
-    if r.index() == 0 {
-        return w % 256;
+    if r.index() == NUMBER_STS {
+        return w % STATUS_RANGE;
     }
     w
 }
@@ -27,21 +32,21 @@ fn kept(r: Register, w: u16) -> u16
 // A word to register r of level l; P of the running level is not written.
 fn put_other(level: u16, regs: &mut [u16], l: u16, r: Register, w: u16)
     requires { ⌜ length (now regs) ≡ registerWords ⌝ }
-    ensures { λ _. ⌜ now (regs .exit) ≡ cond (eqb (l % 16) level && isP r) (now (regs .entry))
+    ensures { λ _. ⌜ now (regs .exit) ≡ cond (eqb (l % levelCount) level && isP r) (now (regs .entry))
         (set (now (regs .entry)) (placeOf l r) (kept r w)) ⌝ }
 {
-    if l % 16 == level {
-        if r.index() == 2 {
+    if l % LEVELS == level {
+        if r.index() == NUMBER_P {
             return;
         }
     }
-    let g = file_at(regs, l % 16);
-    put_file(regs, l % 16, g.with(r, kept(r, w)));
+    let g = file_at(regs, l % LEVELS);
+    put_file(regs, l % LEVELS, g.with(r, kept(r, w)));
 }
 
 // The running level's words are taken out again.
 pub fn reloaded(level: u16, c: Core, regs: &[u16]) -> Core
-    requires { ⌜ level < 16 ⌝ }
+    requires { ⌜ level < levelCount ⌝ }
     requires { ⌜ length (now regs) ≡ registerWords ⌝ }
     ensures { λ d. ⌜ ((b p : List ℕ) → pack level d (now (regs .entry)) p
         ≡ withRegs (pack level c b p) (now (regs .entry))) ⌝ }
@@ -51,34 +56,34 @@ pub fn reloaded(level: u16, c: Core, regs: &[u16]) -> Core
 
 // MON: its number to T of level 14.
 pub fn called(level: u16, c: Core, regs: &mut [u16], w: u16) -> Core
-    requires { ⌜ level < 16 ⌝ }
+    requires { ⌜ level < levelCount ⌝ }
     requires { ⌜ length (now regs) ≡ registerWords ⌝ }
     ensures { λ d. ⌜ ((p : List ℕ) → pack level d (now (regs .exit)) p
         ≡ withCall (pack level c (now (regs .entry)) p) w) ⌝ }
 {
     let f = c.file;
     put_file(regs, level, f);
-    let g = file_at(regs, 14);
-    put_file(regs, 14, g.with(Register::T, w));
+    let g = file_at(regs, INTERNAL_LEVEL);
+    put_file(regs, INTERNAL_LEVEL, g.with(Register::T, w));
     reloaded(level, c, regs)
 }
 
 // IRR: a register of a level to A.
 pub fn register_read(level: u16, c: Core, regs: &mut [u16], l: u16, r: Register) -> Core
-    requires { ⌜ level < 16 ⌝ }
+    requires { ⌜ level < levelCount ⌝ }
     requires { ⌜ length (now regs) ≡ registerWords ⌝ }
     ensures { λ d. ⌜ ((p : List ℕ) → pack level d (now (regs .exit)) p
         ≡ withA (pack level c (now (regs .entry)) p) (registerAt (pack level c (now (regs .entry)) p) l r)) ⌝ }
 {
     let f = c.file;
     put_file(regs, level, f);
-    let g = file_at(regs, l % 16);
+    let g = file_at(regs, l % LEVELS);
     c.with_file(f.with(Register::A, g.get(r)))
 }
 
 // IRW: A to a register of a level.
 pub fn register_written(level: u16, c: Core, regs: &mut [u16], l: u16, r: Register) -> Core
-    requires { ⌜ level < 16 ⌝ }
+    requires { ⌜ level < levelCount ⌝ }
     requires { ⌜ length (now regs) ≡ registerWords ⌝ }
     ensures { λ d. ⌜ ((p : List ℕ) → pack level d (now (regs .exit)) p
         ≡ putOther (pack level c (now (regs .entry)) p) l r (ownA (pack level c (now (regs .entry)) p))) ⌝ }

@@ -4,7 +4,7 @@ use mathlib.Core.Bool.{Bool, cond, _||_}
 use mathlib.Core.List.{List, [], _∷_, _++_}
 use lib.ListN.{take, drop, length}
 use lib.Dec.{leb, eqb}
-use Rattle.isa.specs.Machine.{stateOf, controlWords}
+use Rattle.isa.specs.Machine.{registerWords, stateWords, stateOf, controlWords}
 use Rattle.isa.specs.Answers.{StepCall, RunCall, StateCall, LoadCall, answerNumber, stepNumber, interruptGiven}
 use Rattle.isa.specs.Answers.{runNumber, stepsTaken, reasonNumber, stepCall, runCall, raiseCall, loadCall}
 use Rattle.isa.specs.Answers.{writeAnswer, writtenOutput, viewAnswer, viewed}
@@ -17,7 +17,7 @@ use Rattle.isa.specs.declared.answer.RunAnswer.the-variants.{Ran, Refused}
 
 -- the state of 154 words in image order, 128 registers and 26 control words, and the words of a state
 abbrev pub stateIn : List ℕ → State
-stateIn w = stateOf (take 128 w) (drop 128 w)
+stateIn w = stateOf (take registerWords w) (drop registerWords w)
 
 abbrev pub wordsOf : State → List ℕ
 wordsOf s = s .regs ++ controlWords s
@@ -50,7 +50,7 @@ ended n s m t x w y = leftOf n (cond (eqb n 0) (wordsOf s) w) m t (cond (eqb n 0
 
 -- the call as a whole: words that are no state are refused, and nothing changes
 unfoldable pub called : List ℕ → List ℕ → List ℕ → List ℕ → Left → Left
-called w m t y l = cond (eqb (length w) 154) l (leftOf badCall w m t y)
+called w m t y l = cond (eqb (length w) stateWords) l (leftOf badCall w m t y)
 
 -- step tells the interrupt's number
 abbrev pub stepEnd : List ℕ → List ℕ → StepCall → Left
@@ -86,10 +86,10 @@ hostLoad i w m t = called w m t [] (loadEnd w (loadCall (stateIn w) i m t))
 
 -- write: its number, and the output after it
 unfoldable pub hostWrite : List ℕ → List ℕ → List ℕ → List ℕ → ℕ
-hostWrite w m t o = cond (eqb (length w) 154) (answerNumber (writeAnswer (stateIn w) m t o)) badCall
+hostWrite w m t o = cond (eqb (length w) stateWords) (answerNumber (writeAnswer (stateIn w) m t o)) badCall
 
 unfoldable pub hostWritten : List ℕ → List ℕ → List ℕ → List ℕ → List ℕ
-hostWritten w m t o = cond (eqb (length w) 154) (writtenOutput (stateIn w) m t o) o
+hostWritten w m t o = cond (eqb (length w) stateWords) (writtenOutput (stateIn w) m t o) o
 
 -- what a view is of, by the number of an image's kind: 1 memory, 4 page tables
 abbrev pub knownTarget : ℕ → Bool

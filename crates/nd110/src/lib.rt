@@ -9,12 +9,16 @@ ghost use lib.ListN.{length};
 ghost use Rattle.nd110.specs.Calls.{wordsOf, leftOf, stepEnd, hostStep, runEnd, hostRun, reasonGiven};
 ghost use Rattle.nd110.specs.Calls.{answerEnd, hostRaise, hostLoad, hostWrite, hostWritten, knownTarget};
 ghost use Rattle.nd110.specs.Calls.{targetNamed, hostViewAnswer, hostView, hostViewed};
+ghost use Rattle.isa.specs.Machine.{stateWords};
 ghost use Rattle.isa.specs.Answers.{runCall};
 ghost use Rattle.operations.specs.Calls.{stepOf, runOf};
 use image_load::bodies::state_in;
 use isa::answer::Answer;
 use isa::answer::RunAnswer;
 use isa::answer::Target;
+use isa::constant::KIND_MEMORY;
+use isa::constant::KIND_TABLES;
+use isa::constant::STATE_WORDS;
 use isa::machine::State;
 use isa::number::answer_number;
 use isa::number::interrupt_given;
@@ -35,7 +39,7 @@ const BAD_CALL: u16 = 255;
 
 // A state, to the lent words in image order: 128 registers, then 26 control words.
 fn put_state(s: State, words: &mut [u16])
-    requires { ⌜ length (now words) ≡ 154 ⌝ }
+    requires { ⌜ length (now words) ≡ stateWords ⌝ }
     ensures { λ _. ⌜ now (words .exit) ≡ wordsOf s ⌝ }
 {
     image_write::put_state(s, words, 0);
@@ -43,7 +47,7 @@ fn put_state(s: State, words: &mut [u16])
 
 // What a step answered, to the lent words.
 fn tell_step(r: Stepped, state: &mut [u16], interrupt: &mut u16) -> u16
-    requires { ⌜ length (now state) ≡ 154 ⌝ }
+    requires { ⌜ length (now state) ≡ stateWords ⌝ }
     ensures { λ n. ⌜ ((m t : List ℕ)
         → leftOf n (now (state .exit)) m t (now (interrupt .exit) ∷ [])
         ≡ stepEnd (now (state .entry)) (now (interrupt .entry) ∷ []) (stepOf r m t)) ⌝ }
@@ -70,7 +74,7 @@ pub extern "C" fn nd110_step(
     ensures { λ r. ⌜ leftOf r (now (state .exit)) (now (mem .exit)) (now (tables .exit)) (now (interrupt .exit) ∷ [])
         ≡ hostStep (now (state .entry)) (now (mem .entry)) (now (tables .entry)) (now (interrupt .entry) ∷ []) ⌝ }
 {
-    if state.len() != 154 {
+    if state.len() != STATE_WORDS {
         return BAD_CALL;
     }
     let r = step(state_in(state), mem, tables);
@@ -89,7 +93,7 @@ fn reason_given(a: RunAnswer) -> u16
 
 // What a run answered, to the lent words.
 fn tell(r: Ran, state: &mut [u16], steps: &mut u64, reason: &mut u16) -> u16
-    requires { ⌜ length (now state) ≡ 154 ⌝ }
+    requires { ⌜ length (now state) ≡ stateWords ⌝ }
     ensures { λ n. ⌜ ((m t : List ℕ)
         → leftOf n (now (state .exit)) m t (now (steps .exit) ∷ now (reason .exit) ∷ [])
         ≡ runEnd (now (state .entry)) (now (steps .entry) ∷ now (reason .entry) ∷ []) (runOf r m t)) ⌝ }
@@ -132,7 +136,7 @@ fn run_words(
         ≡ hostRun first n (now (state .entry)) (now (mem .entry)) (now (tables .entry))
         (now (steps .entry) ∷ now (reason .entry) ∷ []) ⌝ }
 {
-    if state.len() != 154 {
+    if state.len() != STATE_WORDS {
         return BAD_CALL;
     }
     let r = run_by(state_in(state), mem, tables, n, first);
@@ -178,7 +182,7 @@ pub extern "C" fn nd110_run_to_interrupt(
 
 // What an operation answered that tells no more, and the state that it left, to the lent words.
 fn tell_answer(a: Answer, after: State, state: &mut [u16]) -> u16
-    requires { ⌜ length (now state) ≡ 154 ⌝ }
+    requires { ⌜ length (now state) ≡ stateWords ⌝ }
     ensures { λ n. ⌜ ((m t : List ℕ)
         → leftOf n (now (state .exit)) m t [] ≡ answerEnd (now (state .entry)) a after m t) ⌝ }
 {
@@ -196,7 +200,7 @@ pub extern "C" fn nd110_raise(state: &mut [u16], level: u16, mem: &[u16], tables
     ensures { λ r. ⌜ leftOf r (now (state .exit)) (now (mem .entry)) (now (tables .entry)) []
         ≡ hostRaise level (now (state .entry)) (now (mem .entry)) (now (tables .entry)) ⌝ }
 {
-    if state.len() != 154 {
+    if state.len() != STATE_WORDS {
         return BAD_CALL;
     }
     let r = raise(state_in(state), level, mem, tables);
@@ -216,7 +220,7 @@ pub extern "C" fn nd110_load(
     ensures { λ r. ⌜ leftOf r (now (state .exit)) (now (mem .exit)) (now (tables .exit)) []
         ≡ hostLoad (now (image .entry)) (now (state .entry)) (now (mem .entry)) (now (tables .entry)) ⌝ }
 {
-    if state.len() != 154 {
+    if state.len() != STATE_WORDS {
         return BAD_CALL;
     }
     let r = operations::load(state_in(state), image, mem, tables);
@@ -232,7 +236,7 @@ pub extern "C" fn nd110_write(state: &[u16], mem: &[u16], tables: &[u16], out: &
     ensures { λ r. ⌜ now (out .exit)
         ≡ hostWritten (now (state .entry)) (now (mem .entry)) (now (tables .entry)) (now (out .entry)) ⌝ }
 {
-    if state.len() != 154 {
+    if state.len() != STATE_WORDS {
         return BAD_CALL;
     }
     answer_number(operations::write(state_in(state), mem, tables, out))
@@ -242,16 +246,16 @@ pub extern "C" fn nd110_write(state: &[u16], mem: &[u16], tables: &[u16], out: &
 fn known_target(kind: u16) -> bool
     ensures { λ r. ⌜ r ≡ knownTarget kind ⌝ }
 {
-    if kind == 1 {
+    if kind == KIND_MEMORY {
         return true;
     }
-    kind == 4
+    kind == KIND_TABLES
 }
 
 fn target_named(kind: u16) -> Target
     ensures { λ r. ⌜ r ≡ targetNamed kind ⌝ }
 {
-    if kind == 1 {
+    if kind == KIND_MEMORY {
         return Target::Memory;
     }
     Target::Tables

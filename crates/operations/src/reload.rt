@@ -4,6 +4,7 @@ ghost use Rattle.operations.specs.Reload.{WrittenAndLoaded};
 use crate::load;
 use crate::write;
 use isa::answer::Answer;
+use isa::constant::BESIDE_MEMORY;
 use isa::machine::State;
 
 // What write and load answer, and the state of the machine loaded into. A refused write's refusal stands for load's.
@@ -31,7 +32,7 @@ pub fn write_and_load(
     let a = write(s, mem, tables, out);
     match a {
         Answer::Done => {
-            let n = mem.len() + 431;
+            let n = mem.len() + BESIDE_MEMORY;
             let r = load(old, &out[0..n], to, copies);
             let b = r.answer;
             let after = r.state;

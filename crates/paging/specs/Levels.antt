@@ -1,7 +1,7 @@
 -- What a level's accesses are judged by, in the parts that the code makes one after the other.
 use Prim.Native.Nat.{ℕ}
-use mathlib.Core.Bool.{cond}
-use lib.Dec.{eqb}
+use mathlib.Core.Bool.{Bool, cond, not, _||_}
+use lib.Dec.{leb, eqb}
 use Rattle.isa.specs.Machine.{bit, flagPTM, ringOf, normalTableOf, alternateTableOf}
 use Rattle.isa.specs.declared.access.Rights.{Rights}
 
@@ -22,3 +22,7 @@ byFlags r sts = record {
 -- on another ring
 abbrev pub onRing : Rights → ℕ → Rights
 onRing r ring = record { paging = r .paging; ring = ring; normal = r .normal; alternate = r .alternate }
+
+-- whether privileged codes may be executed: Step.privileged, by the rights
+abbrev pub privilegedBy : Rights → Bool
+privilegedBy r = not (r .paging) || leb 2 (r .ring)

@@ -6,6 +6,9 @@ ghost use lib.ListN.{length};
 ghost use Rattle.isa.specs.Pages.{faultOf, pgsAfter, wordAt, storeAll, lent};
 ghost use Rattle.paging.specs.Within.{Within, isStore};
 use isa::access::Translation;
+use isa::constant::INTERRUPT_OUT_OF_RANGE;
+use isa::constant::INTERRUPT_PAGE_FAULT;
+use isa::constant::INTERRUPT_PROTECTION;
 
 // The interrupt that an access gives, 0 where it passed.
 pub fn fault_of(x: Translation) -> u16
@@ -17,9 +20,9 @@ pub fn fault_of(x: Translation) -> u16
         Translation::Store(_) => 0,
         Translation::LoadTable(_) => 0,
         Translation::StoreTable(_) => 0,
-        Translation::Protection(_) => 2,
-        Translation::PageFault(_) => 3,
-        Translation::OutOfRange => 9,
+        Translation::Protection(_) => INTERRUPT_PROTECTION,
+        Translation::PageFault(_) => INTERRUPT_PAGE_FAULT,
+        Translation::OutOfRange => INTERRUPT_OUT_OF_RANGE,
     }
 }
 

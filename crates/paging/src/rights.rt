@@ -5,7 +5,7 @@ ghost use Prim.Native.Nat.{_<_};
 ghost use lib.Dec.{eqb};
 ghost use Rattle.isa.specs.Machine.{bit, flagPTM};
 ghost use Rattle.isa.specs.Pages.{rightsBy};
-ghost use Rattle.paging.specs.Levels.{levelRights, byFlags, onRing};
+ghost use Rattle.paging.specs.Levels.{levelRights, byFlags, onRing, privilegedBy};
 use isa::access::Rights;
 
 // By PCR and the control word for paging, with PTM 1.
@@ -60,4 +60,14 @@ pub fn rights(sts: u16, p: u16, paging: u16) -> Rights
     ensures { λ r. ⌜ (r .normal < 4) × (r .alternate < 4) ⌝ }
 {
     by_flags(level_rights(p, paging), sts)
+}
+
+// Whether privileged instructions may be executed: with paging on, on rings 2 and 3.
+pub fn privileged(r: Rights) -> bool
+    ensures { λ b. ⌜ b ≡ privilegedBy r ⌝ }
+{
+    if r.paging {
+        return 2 <= r.ring;
+    }
+    true
 }

@@ -16,6 +16,12 @@ use crate::entry::status;
 use isa::access::Kind;
 use isa::access::Rights;
 use isa::access::Translation;
+use isa::constant::PAGE_WORDS;
+use isa::constant::TABLE_WORDS;
+use isa::constant::WINDOW_START;
+
+// The words of the window: all page tables.
+const WINDOW_WORDS: u16 = TABLE_WORDS as u16;
 
 fn in_memory(k: Kind, p: usize) -> Translation
     ensures { λ x. ⌜ x ≡ inMemory k p ⌝ }
@@ -65,7 +71,7 @@ fn looked_up(tables: &mut [u16], words: usize, ring: u32, k: Kind, slot: u16, a:
     let e = tables[i];
     if permitted(e, k) {
         if (e / 512 % 4) as u32 <= ring {
-            let p = (e % 512) as usize * 1024 + (a % 1024) as usize;
+            let p = (e % 512) as usize * PAGE_WORDS + (a % 1024) as usize;
             if p < words {
                 tables[i] = mark(k, e);
                 return in_memory(k, p);
@@ -80,7 +86,7 @@ fn looked_up(tables: &mut [u16], words: usize, ring: u32, k: Kind, slot: u16, a:
 fn in_window(r: Rights, a: u16) -> bool
     ensures { λ b. ⌜ b ≡ inWindow r a ⌝ }
 {
-    if 65280 <= a {
+    if WINDOW_START <= a {
         if r.paging {
             return r.ring == 3;
         }
@@ -114,7 +120,7 @@ pub fn translate(
     ensures { λ x. ⌜ now (tables .exit) ≡ marked (now (tables .entry)) words r (access k alternate a) ⌝ }
 {
     if in_window(r, a) {
-        return in_tables(k, (a % 256) as usize);
+        return in_tables(k, (a % WINDOW_WORDS) as usize);
     }
     if r.paging {
         return looked_up(tables, words, r.ring, k, slot_of(r, alternate, a), a);

@@ -1,5 +1,5 @@
 // The loop that serves a step, a run through and a run to the first interrupt.
-ghost use Rattle.isa.specs.Machine.{tableWords};
+ghost use Rattle.isa.specs.Machine.{levelCount, tableWords};
 ghost use mathlib.Core.Path.{_≡_};
 ghost use mathlib.Core.Bool.{false};
 ghost use Prim.Native.Nat.{_<_};
@@ -24,7 +24,7 @@ pub struct Outcome {
 
 // At most n steps, through or to the first interrupt. A run through of one step is the step.
 pub fn run(s: State, mem: &mut [u16], tables: &mut [u16], n: u64, first: bool) -> Outcome
-    requires { ⌜ s .level < 16 ⌝ }
+    requires { ⌜ s .level < levelCount ⌝ }
     requires { ⌜ length (now tables) ≡ tableWords ⌝ }
     ensures { λ r. ⌜ ended (r .reason) (r .steps) (r .state) (now (mem .exit)) (now (tables .exit))
         ≡ runFrom first n 0 s (now (mem .entry)) (now (tables .entry)) ⌝ }

@@ -82,10 +82,10 @@ pub fn run_in(
     n: u64,
     first: bool,
 ) -> Ran
-    requires { ⌜ start < 16 ⌝ }
+    requires { ⌜ start < levelCount ⌝ }
     requires { ⌜ (length (now regs) ≡ registerWords) × (length (now pcrs) ≡ levelCount) ⌝ }
     requires { ⌜ length (now tables) ≡ tableWords ⌝ }
-    ensures { λ r. ⌜ r .level < 16 ⌝ }
+    ensures { λ r. ⌜ r .level < levelCount ⌝ }
     ensures { λ r. ⌜ runOf r (now (regs .exit)) (now (pcrs .exit)) (now (mem .exit)) (now (tables .exit))
         ≡ runFrom first n 0 (pack start c (now (regs .entry)) (now (pcrs .entry))) (now (mem .entry))
         (now (tables .entry)) ⌝ }

@@ -30,7 +30,7 @@ fn settled(
     mem: &mut [u16],
     tables: &mut [u16],
 ) -> Advanced
-    requires { ⌜ level < 16 ⌝ }
+    requires { ⌜ level < levelCount ⌝ }
     requires { ⌜ length (now regs) ≡ registerWords ⌝ }
     requires { ⌜ length (now pcrs) ≡ levelCount ⌝ }
     requires { ⌜ length (now tables) ≡ tableWords ⌝ }
@@ -67,13 +67,13 @@ pub fn advance(
     tables: &mut [u16],
     n: u64,
 ) -> Advanced
-    requires { ⌜ level < 16 ⌝ }
+    requires { ⌜ level < levelCount ⌝ }
     requires { ⌜ length (now regs) ≡ registerWords ⌝ }
     requires { ⌜ length (now pcrs) ≡ levelCount ⌝ }
     requires { ⌜ length (now tables) ≡ tableWords ⌝ }
     requires { ⌜ 0 < n ⌝ }
     requires { ⌜ eqb (c .control .stopped) 1 ≡ false ⌝ }
-    ensures { λ r. ⌜ (r .level < 16) × (r .before < n) ⌝ }
+    ensures { λ r. ⌜ (r .level < levelCount) × (r .before < n) ⌝ }
     ensures { λ r. ⌜ Advance (pack level c (now (regs .entry)) (now (pcrs .entry))) (now (mem .entry))
         (now (tables .entry)) n r
         (advancedTurn r (now (regs .exit)) (now (pcrs .exit)) (now (mem .exit)) (now (tables .exit))) ⌝ }

@@ -1,10 +1,10 @@
-// What an event makes of the running level: interrupts, privilege, and the privileged instructions.
-ghost use Rattle.isa.specs.Machine.{tableWords};
+// What an event makes of the running level: interrupts, and the privileged instructions.
+ghost use Rattle.isa.specs.Machine.{levelCount, tableWords};
 ghost use mathlib.Core.Path.{_≡_};
 ghost use mathlib.Core.List.{List};
 ghost use Prim.Native.Nat.{ℕ, _<_};
 ghost use lib.ListN.{length};
-ghost use Rattle.isa.specs.Step.{faulted, failed, trapped, part, examined, deposited, systemStage, privileged};
+ghost use Rattle.isa.specs.Step.{faulted, failed, trapped, part, examined, deposited, systemStage};
 ghost use Rattle.isa.specs.Step.{physicalAddress};
 ghost use Rattle.event.specs.Events.{eventPart};
 ghost use Rattle.trap.specs.Parts.{partOf};
@@ -15,6 +15,12 @@ use isa::access::Kind;
 use isa::access::Translation;
 use isa::answer::Far;
 use isa::answer::Near;
+use isa::constant::INTERRUPT_ERROR;
+use isa::constant::INTERRUPT_ILLEGAL;
+use isa::constant::INTERRUPT_IOX;
+use isa::constant::INTERRUPT_MON;
+use isa::constant::INTERRUPT_PRIVILEGED;
+use isa::constant::WORD_RANGE;
 use isa::instruction::System;
 use isa::machine::Core;
 use isa::machine::Register;
@@ -57,12 +63,15 @@ fn trapped(n: u16, c: Core) -> Near
     left(gives(n, c), n, Far::Nothing)
 }
 
+// What a word is below, as a size.
+const RANGE: usize = WORD_RANGE as usize;
+
 // EXAM and DEPO: T from and to the physical address A * 65,536 + D.
 fn physical_address(c: Core) -> usize
     ensures { λ p. ⌜ p ≡ physicalAddress (c .file) ⌝ }
 {
     let f = c.file;
-    f.get(Register::A) as usize * 65536 + f.get(Register::D) as usize
+    f.get(Register::A) as usize * RANGE + f.get(Register::D) as usize
 }
 
 fn examined(c: Core, mem: &[u16], tables: &[u16]) -> Near
@@ -94,7 +103,7 @@ fn deposited(c: Core, mem: &mut [u16], tables: &mut [u16]) -> Near
 
 // A privileged instruction: done here, or left to be done outside the level.
 fn system_stage(level: u16, c: Core, mem: &mut [u16], tables: &mut [u16], q: System) -> Near
-    requires { ⌜ level < 16 ⌝ }
+    requires { ⌜ level < levelCount ⌝ }
     requires { ⌜ length (now tables) ≡ tableWords ⌝ }
     ensures { λ n. ⌜ partOf n (now (mem .exit)) (now (tables .exit))
         ≡ systemStage level c (now (mem .entry)) (now (tables .entry)) q ⌝ }
@@ -109,25 +118,15 @@ fn system_stage(level: u16, c: Core, mem: &mut [u16], tables: &mut [u16], q: Sys
         System::Lrb(n) => left(c, 0, Far::LoadBlock(n)),
         System::Exam => examined(c, mem, tables),
         System::Depo => deposited(c, mem, tables),
-        System::Iox(_) => trapped(7, c),
-        System::Ioxt => trapped(7, c),
-        System::Ident(_) => trapped(7, c),
+        System::Iox(_) => trapped(INTERRUPT_IOX, c),
+        System::Ioxt => trapped(INTERRUPT_IOX, c),
+        System::Ident(_) => trapped(INTERRUPT_IOX, c),
     }
-}
-
-fn privileged(c: Core) -> bool
-    ensures { λ b. ⌜ b ≡ privileged c ⌝ }
-{
-    let k = c.control;
-    if k.paging == 1 {
-        return 2 <= c.pcr % 4;
-    }
-    true
 }
 
 // The event e in the core c, of which P is where the step leaves it.
 pub fn after_event(level: u16, c: Core, mem: &mut [u16], tables: &mut [u16], e: Event) -> Near
-    requires { ⌜ level < 16 ⌝ }
+    requires { ⌜ level < levelCount ⌝ }
     requires { ⌜ length (now tables) ≡ tableWords ⌝ }
     ensures { λ n. ⌜ partOf n (now (mem .exit)) (now (tables .exit))
         ≡ eventPart level c (now (mem .entry)) (now (tables .entry)) e ⌝ }
@@ -135,14 +134,14 @@ pub fn after_event(level: u16, c: Core, mem: &mut [u16], tables: &mut [u16], e: 
     match e {
         Event::Fine => left(c, 0, Far::Nothing),
         Event::Failed(x) => failed(c, x),
-        Event::Error => trapped(5, c),
-        Event::Privileged(q) => {
-            if privileged(c) {
-                return system_stage(level, c, mem, tables, q);
-            }
-            trapped(6, c)
-        }
-        Event::Monitor(n) => left(gives(1, c), 1, Far::Call(arithmetic::signed::word_of(n))),
-        Event::Illegal => trapped(4, c),
+        Event::Error => trapped(INTERRUPT_ERROR, c),
+        Event::Privileged(q) => system_stage(level, c, mem, tables, q),
+        Event::NotPrivileged => trapped(INTERRUPT_PRIVILEGED, c),
+        Event::Monitor(n) => left(
+            gives(INTERRUPT_MON, c),
+            INTERRUPT_MON,
+            Far::Call(arithmetic::signed::word_of(n)),
+        ),
+        Event::Illegal => trapped(INTERRUPT_ILLEGAL, c),
     }
 }

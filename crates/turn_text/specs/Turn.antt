@@ -4,7 +4,7 @@ use mathlib.Core.Bool.{false, cond, not}
 use mathlib.Core.List.{List}
 use lib.ListN.{getD, length, replicate}
 use lib.Dec.{ltb, eqb}
-use Rattle.isa.specs.Machine.{stateOf}
+use Rattle.isa.specs.Machine.{fileSize, registerWords, controlCount, stateOf}
 use Rattle.isa.specs.Answers.{LoadCall, loadCall, runCall}
 use Rattle.isa.specs.declared.machine.State.{State}
 use Rattle.isa.specs.declared.answer.Reason.{Reason}
@@ -20,7 +20,7 @@ use Rattle.turn_text.specs.declared.Turned.the-variants.{Refused, Ended}
 
 -- "registers at 8 × level + number", of the running level
 abbrev pub register : State → ℕ → ℕ
-register s n = getD (s .regs) (s .level * 8 + n) 0
+register s n = getD (s .regs) (s .level * fileSize + n) 0
 
 -- "prints reason .. steps and level in decimal, then the running level's registers in octal"
 abbrev pub endOf : Reason → ℕ → State → End
@@ -52,7 +52,7 @@ loadedBy (AnswerRefused r) c = Refused r
 
 -- the state that load is handed, which nothing is taken from
 abbrev pub clearedState : State
-clearedState = stateOf (replicate 128 0) (replicate 26 0)
+clearedState = stateOf (replicate registerWords 0) (replicate controlCount 0)
 
 -- an image loaded into lent memory and page tables, and run
 unfoldable pub imageTurned : List ℕ → List ℕ → List ℕ → Turned

@@ -7,11 +7,31 @@ use isa::answer::Answer;
 use isa::answer::Reason;
 use isa::answer::Refusal;
 use isa::answer::RunAnswer;
+use isa::constant::FILE_SIZE;
+use isa::constant::LEVEL_COUNT;
+use isa::constant::NUMBER_A;
+use isa::constant::NUMBER_B;
+use isa::constant::NUMBER_D;
+use isa::constant::NUMBER_L;
+use isa::constant::NUMBER_P;
+use isa::constant::NUMBER_STS;
+use isa::constant::NUMBER_T;
+use isa::constant::NUMBER_X;
+use isa::constant::PAGE_WORDS;
+use isa::constant::REGISTER_WORDS;
+use isa::constant::TABLE_WORDS;
 use isa::machine::Control;
 use isa::machine::State;
 
 mod bytes;
 pub mod printing;
+
+// The bytes of the largest image; the memory that it is loaded into; the steps that it is run.
+pub const LARGEST_INPUT: usize = 65536;
+
+const MEMORY_WORDS: usize = 16 * PAGE_WORDS;
+
+const MOST_STEPS: u64 = 1000;
 
 // How a run ended: reason and steps, the running level and its registers.
 pub struct End {
@@ -35,11 +55,11 @@ pub enum Turned {
 }
 
 // A register of the running level.
-fn register(s: State, n: u16) -> u16
+fn register(s: State, n: usize) -> u16
     ensures { λ r. ⌜ r ≡ Turn·register s n ⌝ }
 {
-    let i = s.level as usize * 8 + n as usize;
-    if i < 128 {
+    let i = s.level as usize * FILE_SIZE + n;
+    if i < REGISTER_WORDS {
         return s.regs[i];
     }
     0
@@ -52,14 +72,14 @@ fn end_of(w: Reason, k: u64, s: State) -> End
         reason: w,
         steps: k,
         level: s.level,
-        sts: register(s, 0),
-        d: register(s, 1),
-        p: register(s, 2),
-        b: register(s, 3),
-        l: register(s, 4),
-        a: register(s, 5),
-        t: register(s, 6),
-        x: register(s, 7),
+        sts: register(s, NUMBER_STS),
+        d: register(s, NUMBER_D),
+        p: register(s, NUMBER_P),
+        b: register(s, NUMBER_B),
+        l: register(s, NUMBER_L),
+        a: register(s, NUMBER_A),
+        t: register(s, NUMBER_T),
+        x: register(s, NUMBER_X),
     }
 }
 
@@ -68,7 +88,7 @@ fn cleared() -> State
     ensures { λ r. ⌜ r ≡ clearedState ⌝ }
 {
     State {
-        regs: [0; 128],
+        regs: [0; REGISTER_WORDS],
         level: 0,
         control: Control {
             interrupts: 0,
@@ -81,7 +101,7 @@ fn cleared() -> State
             iie: 0,
             pgs: 0,
         },
-        pcr: [0; 16],
+        pcr: [0; LEVEL_COUNT],
     }
 }
 
@@ -89,7 +109,7 @@ fn cleared() -> State
 fn run_state(s: State, mem: &mut [u16], tables: &mut [u16]) -> Turned
     ensures { λ r. ⌜ r ≡ ranFrom s (now (mem .entry)) (now (tables .entry)) ⌝ }
 {
-    let ran = operations::runs::through(s, mem, tables, 1000);
+    let ran = operations::runs::through(s, mem, tables, MOST_STEPS);
     let a = ran.answer;
     let after = ran.state;
     match a {
@@ -117,15 +137,15 @@ pub fn turn(input: &[u8]) -> Turned
     ensures { λ r. ⌜ r ≡ turned (now (input .entry)) ⌝ }
 {
     let n = input.len();
-    if 65536 < n {
+    if LARGEST_INPUT < n {
         return Turned::Refused(Refusal::Bodies);
     }
     if n % 2 != 0 {
         return Turned::Refused(Refusal::Bodies);
     }
-    let mut words = [0u16; 32768];
-    let mut mem = [0u16; 16384];
-    let mut tables = [0u16; 256];
+    let mut words = [0u16; LARGEST_INPUT / 2];
+    let mut mem = [0u16; MEMORY_WORDS];
+    let mut tables = [0u16; TABLE_WORDS];
     let count = put_words(input, &mut words);
     run_image(&words[..count], &mut mem, &mut tables)
 }

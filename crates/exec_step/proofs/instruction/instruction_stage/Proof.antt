@@ -10,8 +10,11 @@ use Rattle.isa.specs.declared.machine.File.{File}
 use Rattle.event.specs.declared.Ending.{Ending}
 use Rattle.event.specs.declared.Event.the-variants.{Monitor}
 use Rattle.event.specs.declared.Event.{Event}
-use Rattle.event.specs.Events.{eventPart}
+use Rattle.event.specs.Events.{eventPart, permitted}
+use Rattle.isa.specs.Machine.{nextCore}
+use Rattle.isa.specs.Step.{privileged}
 use Rattle.exec_memory.proofs.Stages.{file-left}
+use Rattle.exec_step.proofs.Steps.{privileged-part}
 use borrow.Author.Needs.{needs}
 use Rattle.exec_step.proofs.instruction.instruction_stage.Statement.{statement}
 use Rattle.exec_step.proofs.instruction.instruction_stage.Tie as tie
@@ -64,17 +67,18 @@ returns c =
     ∙ ap (instructionStage l k (a .mem .now) (a .tables .now)) (sym (told .i .given .1))
 
 returns-2 : tie.Need-returns-2
-unfolding instructionStage eventPart
+unfolding instructionStage eventPart permitted
 returns-2 c =
     let told = c .before .before in
     let start = told .before .before .before .before in
     let a = start .args in
     λ l k s.
     file-left l _ _ (s .executing) (c .with-event .ensures)
+    ∙ privileged-part l (nextCore k) (a .mem .now) (a .tables .now) _ (privileged k)
     ∙ ap (instructionStage l k (a .mem .now) (a .tables .now)) (sym (told .i2 .given .1))
 
 returns-3 : tie.Need-returns-3
-unfolding instructionStage eventPart
+unfolding instructionStage eventPart permitted
 returns-3 c =
     let told = c .before in
     let start = told .before .before .before .before in
@@ -84,7 +88,7 @@ returns-3 c =
     ∙ ap (instructionStage l k (a .mem .now) (a .tables .now)) (sym (told .enum-told .given .1))
 
 returns-4 : tie.Need-returns-4
-unfolding instructionStage eventPart
+unfolding instructionStage eventPart permitted
 returns-4 c =
     let told = c .before .before in
     let start = told .before .before .before .before in
@@ -97,7 +101,7 @@ returns-4 c =
     ∙ ap (instructionStage l k (a .mem .now) (a .tables .now)) (sym (told .i3 .given .1))
 
 returns-5 : tie.Need-returns-5
-unfolding instructionStage eventPart
+unfolding instructionStage eventPart permitted
 returns-5 c =
     let told = c .before in
     let start = told .before .before .before .before in
