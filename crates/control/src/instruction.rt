@@ -51,7 +51,7 @@ pub fn controlled(level: u16, c: Core, o: ControlOp) -> Core
         ControlOp::Wait => c.with_control(waited(level, k)),
         ControlOp::Tra(r) => internal::read(level, c, r),
         ControlOp::Trr(r) => internal::written(c, r),
-        ControlOp::Mcl(r) => internal::cleared(c, r),
-        ControlOp::Mst(r) => internal::masked(c, r),
+        ControlOp::Mcl(r) => internal::bits_cleared(c, r),
+        ControlOp::Mst(r) => internal::bits_set(c, r),
     }
 }

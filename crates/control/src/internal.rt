@@ -1,8 +1,8 @@
 // TRA, TRR, MCL and MST: the internal registers.
 ghost use mathlib.Core.Path.{_≡_};
 ghost use Prim.Native.Nat.{_<_};
-ghost use Rattle.isa.specs.System.{statusWord, internalWord, afterReading, read, withSts, written, cleared, masked};
-ghost use Rattle.isa.specs.System.{withPid, withPie, withInternal};
+ghost use Rattle.isa.specs.System.{statusWord, internalWord, afterReading, read, withSts, written, maskableWord};
+ghost use Rattle.isa.specs.System.{withMaskable, bitsCleared, bitsSet, withPid, withPie, withInternal};
 ghost use Rattle.isa.specs.Machine.{levelCount, withControl};
 use isa::constant::ALL_ONES;
 use isa::constant::LEVELS;
@@ -122,30 +122,43 @@ pub fn written(c: Core, r: Writable) -> Core
     }
 }
 
-// MCL clears the bits that are set in A.
-pub fn cleared(c: Core, r: Maskable) -> Core
-    ensures { λ d. ⌜ d ≡ cleared c r ⌝ }
+// What a register that MCL and MST reach holds.
+fn maskable_word(c: Core, r: Maskable) -> u16
+    ensures { λ w. ⌜ w ≡ maskableWord c r ⌝ }
 {
     let f = c.file;
     let k = c.control;
-    let a = ALL_ONES - f.get(Register::A);
     match r {
-        Maskable::Status => with_sts(c, f.get(Register::Sts) & a),
-        Maskable::Pid => with_pid(c, k.pid & a),
-        Maskable::Pie => with_pie(c, k.pie & a),
+        Maskable::Status => f.get(Register::Sts),
+        Maskable::Pid => k.pid,
+        Maskable::Pie => k.pie,
     }
 }
 
-// MST sets them.
-pub fn masked(c: Core, r: Maskable) -> Core
-    ensures { λ d. ⌜ d ≡ masked c r ⌝ }
+fn with_maskable(c: Core, r: Maskable, w: u16) -> Core
+    ensures { λ d. ⌜ d ≡ withMaskable c r w ⌝ }
+{
+    match r {
+        Maskable::Status => with_sts(c, w),
+        Maskable::Pid => with_pid(c, w),
+        Maskable::Pie => with_pie(c, w),
+    }
+}
+
+// MCL clears the bits that are set in A.
+pub fn bits_cleared(c: Core, r: Maskable) -> Core
+    ensures { λ d. ⌜ d ≡ bitsCleared c r ⌝ }
 {
     let f = c.file;
-    let k = c.control;
+    let a = ALL_ONES - f.get(Register::A);
+    with_maskable(c, r, maskable_word(c, r) & a)
+}
+
+// MST sets them.
+pub fn bits_set(c: Core, r: Maskable) -> Core
+    ensures { λ d. ⌜ d ≡ bitsSet c r ⌝ }
+{
+    let f = c.file;
     let a = f.get(Register::A);
-    match r {
-        Maskable::Status => with_sts(c, f.get(Register::Sts) | a),
-        Maskable::Pid => with_pid(c, k.pid | a),
-        Maskable::Pie => with_pie(c, k.pie | a),
-    }
+    with_maskable(c, r, maskable_word(c, r) | a)
 }

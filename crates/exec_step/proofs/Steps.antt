@@ -28,6 +28,7 @@ use Rattle.paging.proofs.Levels.{ring-rights, same-ring}
 use Rattle.paging.proofs.Outcomes.{Found, passes-zero, fails-other}
 use Rattle.event.specs.Events.{eventPart, permitted}
 use Rattle.event.specs.declared.Ending.{Ending}
+use Rattle.event.specs.declared.Event.{Event}
 use Rattle.event.specs.declared.Event.the-variants.{Failed as Faulted, Privileged as ByRing}
 use Rattle.exec_memory.specs.Stages.{coreOf, ringAfter}
 use Rattle.exec_memory.proofs.Stages.{ring-is, ring-small}
@@ -119,21 +120,23 @@ module _ {f : File} {m t : List ℕ} {r : Rights} {ring : ℕ} {x : Translation}
       whole = λ i. fetched l c m (v-is i) (ring-in i) (x-is i)
 
   -- it passed, and the word w was executed on the ring q, which may execute privileged codes if b is true
-  pub step-passed : (q w : ℕ) (b : Bool) (e : Ending) (m′ t′ : List ℕ) → n ≡ 0 → r .ring < 4 → q ≡ ringAfter r ring x
+  pub step-passed : (q w : ℕ) {b : Bool} (e : Ending) {z : Event} (m′ t′ : List ℕ) → n ≡ 0 → r .ring < 4
+      → q ≡ ringAfter r ring x
       → b ≡ privilegedBy (onRing r q)
+      → z ≡ permitted b (e .event)
       → w ≡ wordAt m v x
       → ExecutedWord (next f) (reg f P) (onRing r q) w m v e m′ t′
-      → StepOfLevel f r m t (record { file = e .file; ring = q; event = permitted b (e .event) }) m′ t′
-  step-passed q w b e m′ t′ s z i g j d l p k y =
-      let small : q < 4 = rw i (ring-small t (reg f P) r x z (h .entry)) in
+      → StepOfLevel f r m t (record { file = e .file; ring = q; event = z }) m′ t′
+  step-passed q w e m′ t′ s below i g a j d l p k y =
+      let small : q < 4 = rw i (ring-small t (reg f P) r x below (h .entry)) in
       let lower : ℕ = loweredPcr p q in
       let rights : levelRights lower (k .paging) ≡ onRing r q =
       ring-rights p q (k .paging) small ∙ ap (λ (u : Rights). onRing u q) y in
       let core : coreOf f lower k ≡ afterFetch (coreOf f p k) ring x =
       ap (λ (u : ℕ). coreOf f (loweredPcr p u) k) i
       ∙ sym (ring-is f p k t (length m) (reg f P) y (h .found .place) (h .entry)) in
-      ap (λ (u : Bool). eventPart l (coreOf (e .file) lower k) m′ t′ (permitted u (e .event)))
-      (g ∙ ap privilegedBy (sym rights))
+      ap (eventPart l (coreOf (e .file) lower k) m′ t′)
+      (a ∙ ap (λ (u : Bool). permitted u (e .event)) (g ∙ ap privilegedBy (sym rights)))
       ∙ d l lower f k refl refl rights
       ∙ ap (λ (c : Core). instructionStage l c m v (executed f (decode w))) core
       ∙ ap (λ (u : ℕ). instructionStage l (afterFetch (coreOf f p k) ring x) m v (executed f (decode u))) j

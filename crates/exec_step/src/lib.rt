@@ -47,11 +47,11 @@ pub fn step_in(f: File, r: Rights, mem: &mut [u16], tables: &mut [u16]) -> Level
         let s = on_ring(r, q);
         let e = executed_word(f.next(), at, s, mem, tables, w);
         let file = e.file;
-        let event = permitted(privileged(s), e.event);
+        let event = e.event;
         return LevelStep {
             file: file,
             ring: q,
-            event: event,
+            event: permitted(privileged(s), event),
         };
     }
     LevelStep {

@@ -120,16 +120,23 @@ written c ToIie =
 written c ToPid = withControl c (withPid (c .control) (reg (c .file) A))
 written c ToPie = withControl c (withPie (c .control) (reg (c .file) A))
 
--- MCL clears the bits that are set in A, MST sets them
-abbrev pub cleared : Core → Maskable → Core
-cleared c InStatus = withSts c (bitAnd (reg (c .file) Sts) (complement (reg (c .file) A)))
-cleared c InPid = withControl c (withPid (c .control) (bitAnd (c .control .pid) (complement (reg (c .file) A))))
-cleared c InPie = withControl c (withPie (c .control) (bitAnd (c .control .pie) (complement (reg (c .file) A))))
+-- the registers that MCL and MST reach: what one of them holds, and the core with another word in it
+abbrev pub maskableWord : Core → Maskable → ℕ
+maskableWord c InStatus = reg (c .file) Sts
+maskableWord c InPid = c .control .pid
+maskableWord c InPie = c .control .pie
 
-abbrev pub masked : Core → Maskable → Core
-masked c InStatus = withSts c (bitOr (reg (c .file) Sts) (reg (c .file) A))
-masked c InPid = withControl c (withPid (c .control) (bitOr (c .control .pid) (reg (c .file) A)))
-masked c InPie = withControl c (withPie (c .control) (bitOr (c .control .pie) (reg (c .file) A)))
+abbrev pub withMaskable : Core → Maskable → ℕ → Core
+withMaskable c InStatus w = withSts c w
+withMaskable c InPid w = withControl c (withPid (c .control) w)
+withMaskable c InPie w = withControl c (withPie (c .control) w)
+
+-- MCL clears the bits that are set in A, MST sets them
+abbrev pub bitsCleared : Core → Maskable → Core
+bitsCleared c r = withMaskable c r (bitAnd (maskableWord c r) (complement (reg (c .file) A)))
+
+abbrev pub bitsSet : Core → Maskable → Core
+bitsSet c r = withMaskable c r (bitOr (maskableWord c r) (reg (c .file) A))
 
 -- interrupts and paging on or off
 abbrev pub switched : Core → ℕ → ℕ → Core
@@ -146,5 +153,5 @@ controlled l c Piof = switched c 0 0
 controlled l c Wait = withControl c (waited l (c .control))
 controlled l c (Tra r) = read l c r
 controlled l c (Trr r) = written c r
-controlled l c (Mcl r) = cleared c r
-controlled l c (Mst r) = masked c r
+controlled l c (Mcl r) = bitsCleared c r
+controlled l c (Mst r) = bitsSet c r

@@ -11,7 +11,7 @@ use borrow.Author.Tests.{ltb-true}
 use Rattle.isa.specs.Machine.{bit, withBit, reg, withFile, withControl, nextCore, ringOf, interruptMask, pcrMask}
 use Rattle.isa.specs.Flags.{complement}
 use Rattle.isa.specs.System.{highestIn, withSwitches, withLevels, withInternal, withPid, withPie, waited}
-use Rattle.isa.specs.System.{internalWord, afterReading, read, withSts, written, cleared, masked, switched}
+use Rattle.isa.specs.System.{internalWord, afterReading, read, withSts, written, bitsCleared, bitsSet, switched}
 use Rattle.isa.specs.System.{controlled}
 use Rattle.isa.specs.Pages.{loweredPcr, lowered}
 use Rattle.isa.specs.Step.{detected, interrupted, gives}
@@ -228,13 +228,13 @@ written-fits q ToPid = control-fits q (pid-fits (q .control) (reg-word (q .file)
 written-fits q ToPie = control-fits q (pie-fits (q .control) (reg-word (q .file) A))
 
 -- MCL
-cleared-fits : {c : Core} → CoreFits c → (r : Maskable) → CoreFits (cleared c r)
+cleared-fits : {c : Core} → CoreFits c → (r : Maskable) → CoreFits (bitsCleared c r)
 cleared-fits {c} q InStatus = sts-fits q (bitAnd (reg (c .file) Sts) (complement (reg (c .file) A)))
 cleared-fits q InPid = control-fits q (pid-fits (q .control) (and-lt 16 _ _ (q .control .pid) (omega arith)))
 cleared-fits q InPie = control-fits q (pie-fits (q .control) (and-lt 16 _ _ (q .control .pie) (omega arith)))
 
 -- MST
-masked-fits : {c : Core} → CoreFits c → (r : Maskable) → CoreFits (masked c r)
+masked-fits : {c : Core} → CoreFits c → (r : Maskable) → CoreFits (bitsSet c r)
 masked-fits {c} q InStatus = sts-fits q (bitOr (reg (c .file) Sts) (reg (c .file) A))
 masked-fits q InPid = control-fits q (pid-fits (q .control) (or-lt 16 _ _ (q .control .pid) (reg-word (q .file) A)))
 masked-fits q InPie = control-fits q (pie-fits (q .control) (or-lt 16 _ _ (q .control .pie) (reg-word (q .file) A)))

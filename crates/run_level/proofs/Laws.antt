@@ -14,7 +14,7 @@ use Rattle.isa.specs.declared.machine.State.{State}
 use Rattle.isa.proofs.Tests.{no-both}
 use Rattle.event.specs.Events.{eventPart, isFine}
 use Rattle.event.specs.declared.Event.{Event}
-use Rattle.event.specs.declared.Event.the-variants.{Fine, Failed, Error, Privileged, Monitor, Illegal}
+use Rattle.event.specs.declared.Event.the-variants.{Fine, Failed, Error, Privileged, NotPrivileged, Monitor, Illegal}
 use Rattle.levels.specs.Changes.{dueAt}
 use Rattle.levels.proofs.Changes.{due-pack}
 use Rattle.run_level.specs.Bursts.{Levels, Executes, leaves, goesOn}
@@ -59,6 +59,7 @@ fine-event Fine h = refl
 fine-event (Failed x) h = absurd (no-both h)
 fine-event Error h = absurd (no-both h)
 fine-event (Privileged q) h = absurd (no-both h)
+fine-event NotPrivileged h = absurd (no-both h)
 fine-event (Monitor n) h = absurd (no-both h)
 fine-event Illegal h = absurd (no-both h)
 

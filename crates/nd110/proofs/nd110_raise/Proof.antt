@@ -9,6 +9,11 @@ use borrow.Author.Needs.{needs}
 use Rattle.nd110.proofs.nd110_raise.Statement.{statement}
 use Rattle.nd110.proofs.nd110_raise.Tie as tie
 
+-- where the state was taken in: before it the function's start
+abbrev started : tie.After-state-in → tie.Start
+started c = let tested = c .before .before .before in tested .before .before .before
+
+-- a state of another length
 returns : tie.Need-returns
 returns c = called-badly _ _ _ _ _ (c .if1 .taken)
 
@@ -24,12 +29,13 @@ tell-answer-requires c κs = search needs
 same-length : tie.Need-same-length
 same-length c = search needs
 
+-- the call was made
 returns-2 : tie.Need-returns-2
 returns-2 c =
     let told = c .before .before in
     let done = told .before .before .before in
     let entered = done .before in
-    let a = entered .before .before .before .before .before .before .args in
+    let a = started entered .args in
     let m = a .mem .now in
     let t = a .tables .now in
     called-well (λ (s : State). raiseCall s (a .level) m t) (raiseEnd (a .state .now) m t) (a .state .now) m t [] _ _ _

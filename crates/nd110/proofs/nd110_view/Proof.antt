@@ -11,6 +11,11 @@ use borrow.Author.Needs.{needs}
 use Rattle.nd110.proofs.nd110_view.Statement.{statement}
 use Rattle.nd110.proofs.nd110_view.Tie as tie
 
+-- where the kind was tested: before it the room in the output
+abbrev roomy : tie.After-known-target → tie.Else1
+roomy c = c .before .before
+
+-- too few words of output
 returns : tie.Need-returns
 unfolding hostView hostViewed
 returns c = let short = lt-leb _ _ (c .if1 .taken) in (simp short, simp short)
@@ -27,10 +32,11 @@ target-named-requires c κs = search needs
 view-requires : tie.Need-view-requires
 view-requires c κs = search needs
 
+-- the part is no longer than was asked for, and there is room for so much
 copy-requires : tie.Need-copy-requires
 copy-requires c κs =
     let shown = c .before in
-    let a = shown .before .before .before .before .before .before .before .before .before .args in
+    let a = roomy (shown .before .before .before) .before .before .before .before .args in
     let most = viewed-most (shown .before .target-named .result) (a .start) (a .len) (a .mem .now) (a .tables .now) in
     let h : length (shown .view .result .now) ≤ a .len = rw (shown .view .ensures) most in
     (omega (arith, h), omega arith)
@@ -38,24 +44,27 @@ copy-requires c κs =
 same-length : tie.Need-same-length
 same-length c = search needs
 
+-- the part is put
 returns-2 : tie.Need-returns-2
 unfolding hostView hostViewed
 returns-2 c =
     let shown = c .before .before .before .before in
-    let known = sym (shown .before .before .before .known-target .ensures) ∙ shown .before .before .if2 .taken in
-    let room = le-leb _ _ (shown .before .before .before .before .before .if1 .left) in
-    let a = shown .before .before .before .before .before .before .before .before .before .args in
+    let tested = shown .before .before .before in
+    let known = sym (tested .known-target .ensures) ∙ shown .before .before .if2 .taken in
+    let room = le-leb _ _ (roomy tested .if1 .left) in
+    let a = roomy (shown .before .before .before) .before .before .before .before .args in
     let part = shown .view .result .now in (
-      shown .before .before .before .before .nd110-view-answer .ensures ∙ simp room,
+      tested .before .nd110-view-answer .ensures ∙ simp room,
       c .before .before .copy .ensures
           ∙ put-front (a .out .now) part (length part) refl
           ∙ simp (shown .view .ensures, shown .before .target-named .ensures, known, room),
     )
 
+-- an unknown kind
 returns-3 : tie.Need-returns-3
 unfolding hostView hostViewed
 returns-3 c =
-    let room = le-leb _ _ (c .before .before .before .if1 .left) in
+    let room = le-leb _ _ (roomy (c .before) .if1 .left) in
     let unknown = sym (c .before .known-target .ensures) ∙ c .if2 .left in
     (c .before .before .nd110-view-answer .ensures ∙ simp room, simp (room, unknown))
 

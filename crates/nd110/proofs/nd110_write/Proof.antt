@@ -7,6 +7,7 @@ use borrow.Author.Needs.{needs}
 use Rattle.nd110.proofs.nd110_write.Statement.{statement}
 use Rattle.nd110.proofs.nd110_write.Tie as tie
 
+-- a state of another length
 returns : tie.Need-returns
 unfolding hostWrite hostWritten
 returns c = let bad = ne-eqb _ _ (c .if1 .taken) in (simp bad, simp bad)
@@ -23,14 +24,16 @@ answer-number-requires c κs = search needs
 same-length : tie.Need-same-length
 same-length c = search needs
 
+-- the call was made
 returns-2 : tie.Need-returns-2
 unfolding hostWrite hostWritten
 returns-2 c =
-    let entered = c .before .before .before .before .before in
+    let writing = c .before .before .before in
+    let entered = writing .before .before in
     let well = eq-eqb _ _ (entered .before .if1 .left) in
     let s = entered .state-in .ensures in (
-      c .answer-number .ensures ∙ simp (c .before .before .before .write .ensures .0, s, well),
-      c .before .before .before .write .ensures .1 .0 ∙ simp (s, well),
+      c .answer-number .ensures ∙ simp (writing .write .ensures .0, s, well),
+      writing .write .ensures .1 .0 ∙ simp (s, well),
     )
 
 pub nd110-write-spec : {M : Type 1} → statement M

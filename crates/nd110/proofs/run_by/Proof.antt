@@ -16,13 +16,15 @@ same-length c = search needs
 same-length-2 : tie.Need-same-length-2
 same-length-2 c = search needs
 
+-- to the first interrupt
 returns : tie.Need-returns
 returns c =
     let ran = c .before .before .before .before in
-    let a = ran .before .before .before .before .before .before .args in
+    let tested = ran .before .before .before in
+    let a = tested .before .before .before .args in
     ran .to-interrupt .ensures .0
     ∙ ap (λ (b : Bool). runCall b (a .n) (a .s) (a .mem .now) (a .tables .now))
-    (sym (ran .before .before .before .if1 .taken))
+    (sym (tested .if1 .taken))
 
 through-requires : tie.Need-through-requires
 through-requires c κs = search needs
@@ -33,13 +35,15 @@ same-length-3 c = search needs
 same-length-4 : tie.Need-same-length-4
 same-length-4 c = search needs
 
+-- through
 returns-2 : tie.Need-returns-2
 returns-2 c =
     let ran = c .before .before .before .before in
-    let a = ran .before .before .before .before .before .before .args in
+    let tested = ran .before .before .before in
+    let a = tested .before .before .before .args in
     ran .through .ensures .0
     ∙ ap (λ (b : Bool). runCall b (a .n) (a .s) (a .mem .now) (a .tables .now))
-    (sym (ran .before .before .before .if1 .left))
+    (sym (tested .if1 .left))
 
 pub run-by-spec : {M : Type 1} → statement M
 run-by-spec =

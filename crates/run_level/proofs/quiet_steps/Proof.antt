@@ -34,9 +34,49 @@ Inv-loop p paging mem₀ tables₀ n base file₀ ring₀ left₀ mem tables fil
 abbrev μ-loop : tie.MeasureT-loop
 μ-loop p paging mem₀ tables₀ n base file₀ ring₀ left₀ mem tables file ring left = left
 
+-- ---- places: the step before its event was asked for; the loop's test before the step; the function's start
+
+abbrev stepping : tie.After-ends Inv-loop μ-loop → tie.After-step-in Inv-loop μ-loop
+stepping c = let lent = c .before .before .before .before in lent .before .before
+
+abbrev testing : tie.After-step-in Inv-loop μ-loop → tie.In-loop Inv-loop μ-loop
+testing c = c .before .before .before .before
+
+abbrev started : tie.In-loop Inv-loop μ-loop → tie.Start Inv-loop μ-loop
+started c = let rights = c .before .before in rights .before .before .before
+
+-- the level before the step, and after it
+abbrev here : tie.After-step-in Inv-loop μ-loop → Level
+here c =
+    let l = testing c .before .loop in levelOn (l .file) (started (testing c) .args .p) (l .ring) (l .mem) (l .tables)
+
+abbrev there : tie.After-step-in Inv-loop μ-loop → Level
+there c =
+    let s = c .step-in in
+    levelOn (s .result .file) (started (testing c) .args .p) (s .result .ring) (s .last .1 .1 .0) (s .last .1 .1 .1 .0)
+
+-- the code's step is one of the level
+one : (c : tie.After-step-in Inv-loop μ-loop)
+    → Steps (started (testing c) .args .paging) (here c) (there c) (c .step-in .result .event)
+one c =
+    let tested = testing c in
+    let l = tested .before .loop in
+    let a = started tested .args in
+    let s = c .step-in in
+    let rights = c .before .before .before .on-ring .ensures
+    ∙ ap (λ (r : Rights). onRing r (l .ring)) (tested .before .before .level-rights .ensures .0) in
+    stepped (a .paging) (a .p) (l .ring) (l .file) (l .mem) (l .tables) (s .result) (s .last .1 .1 .0)
+    (s .last .1 .1 .1 .0) (l .inv .1 .0 .1) rights (s .ensures .1)
+
+fewer : (c : tie.In-loop Inv-loop μ-loop) → started c .args .n - c .before .loop .left < started c .args .n
+fewer c = omega (arith, c .loop-test .taken, c .before .loop .inv .1 .0 .0)
+
+-- ---- needs
+
 level-rights-requires : tie.Need-level-rights-requires Inv-loop μ-loop
 level-rights-requires c κs = search needs
 
+-- no step was taken
 loop-holds : tie.Need-loop-holds Inv-loop μ-loop
 loop-holds c =
     let a = c .before .before .before .args in
@@ -56,6 +96,7 @@ loop-holds c =
 on-ring-requires : tie.Need-on-ring-requires Inv-loop μ-loop
 on-ring-requires c κs = search needs
 
+-- the ring is one of a PCR, and the tables keep their size
 step-in-requires : tie.Need-step-in-requires Inv-loop μ-loop
 step-in-requires c κs =
     let on = c .before .before .on-ring in
@@ -72,56 +113,39 @@ ends-requires : tie.Need-ends-requires Inv-loop μ-loop
 ends-requires c κs = search needs
 
 sub-burst-of : tie.Need-sub-burst-of Inv-loop μ-loop
-sub-burst-of c =
-    let stepping = c .before .before .before .before in
-    let left = stepping .before .before .before in
-    let looping = left .before .before .before .before in
-    looping .before .loop .inv .1 .0 .0
+sub-burst-of c = testing (stepping (c .before)) .before .loop .inv .1 .0 .0
 
 burst-of-requires : tie.Need-burst-of-requires Inv-loop μ-loop
-burst-of-requires c κs =
-    let file = c .before .before .before .before in
-    let stepping = file .before .before .before in
-    stepping .step-in .ensures .0
+burst-of-requires c κs = stepping (c .before) .step-in .ensures .0
 
 same-length : tie.Need-same-length Inv-loop μ-loop
 same-length c =
-    let file = c .before .before .before .before in
-    let stepping = file .before .before .before .before in
-    let looping = stepping .before .before .before .before in
-    stepping .step-in .kept .1 .1 .0 ∙ looping .before .loop .inv .1 .1 .0
+    let s = stepping (c .before .before) in
+    s .step-in .kept .1 .1 .0 ∙ testing s .before .loop .inv .1 .1 .0
 
 same-length-2 : tie.Need-same-length-2 Inv-loop μ-loop
 same-length-2 c =
-    let file = c .before .before .before .before in
-    let stepping = file .before .before .before .before in
-    let looping = stepping .before .before .before .before in
-    stepping .step-in .kept .1 .1 .1 .0 ∙ looping .before .loop .inv .1 .1 .1
+    let s = stepping (c .before .before) in
+    s .step-in .kept .1 .1 .1 .0 ∙ testing s .before .loop .inv .1 .1 .1
 
+-- the step's event ends the burst
 returns : tie.Need-returns Inv-loop μ-loop
 returns c =
-    -- the step's event ends the burst
-    let file = c .before .before .before .before in
-    let stepping = file .before .before .before .before in
-    let tested = stepping .before .before .before .before in
-    let l = tested .before .loop in
-    let level = tested .before .before .level-rights in
-    let began = tested .before .before .before .before in
-    let start = began .before in
-    let a = start .args in
-    let s = stepping .step-in in
-    let m = s .last .1 .1 .0 in
-    let t = s .last .1 .1 .1 .0 in
-    let on = stepping .before .before .before .on-ring in
-    let rights = on .ensures ∙ ap (λ (r : Rights). onRing r (l .ring)) (level .ensures .0) in
-    let d : Level = levelOn (s .result .file) (a .p) (s .result .ring) m t in
-    let e : Event = s .result .event in
-    let one : Steps (a .paging) (levelOn (l .file) (a .p) (l .ring) (l .mem) (l .tables)) d e =
-    stepped (a .paging) (a .p) (l .ring) (l .file) (l .mem) (l .tables) (s .result) m t (l .inv .1 .0 .1) rights
-    (s .ensures .1) in
-    let fewer : a .n - l .left < a .n = omega (arith, tested .loop-test .taken, l .inv .1 .0 .0) in
-    subst (Answered (a .f) (a .p) (a .paging) (a .mem .now) (a .tables .now) (a .n) m t) (sym (c .burst-of .ensures))
-    (fewer, (then-ends (l .inv .0) fewer d e one, λ z. first-step (l .inv .0) fewer d e one z))
+    let s = stepping (c .before .before) in
+    let tested = testing s in
+    let a = started tested .args in
+    let e : Event = s .step-in .result .event in
+    let quiet = tested .before .loop .inv .0 in
+    subst
+    (Answered (a .f) (a .p) (a .paging) (a .mem .now) (a .tables .now) (a .n) (s .step-in .last .1 .1 .0)
+    (s .step-in .last .1 .1 .1 .0))
+    (sym (c .burst-of .ensures)) (
+      fewer tested,
+      (
+        then-ends quiet (fewer tested) (there s) e (one s),
+        λ z. first-step quiet (fewer tested) (there s) e (one s) z,
+      ),
+    )
 
 sub-left : tie.Need-sub-left Inv-loop μ-loop
 sub-left c = search needs
@@ -129,35 +153,27 @@ sub-left c = search needs
 loop-less : tie.Need-loop-less Inv-loop μ-loop
 loop-less c = search needs
 
+-- one more quiet step
 loop-again : tie.Need-loop-again Inv-loop μ-loop
 loop-again c =
-    -- one more quiet step
-    let file = c .before .before .before .before in
-    let stepping = file .before .before .before in
-    let tested = stepping .before .before .before .before in
+    let s = stepping (c .before) in
+    let tested = testing s in
+    let a = started tested .args in
     let l = tested .before .loop in
-    let level = tested .before .before .level-rights in
-    let began = tested .before .before .before .before in
-    let start = began .before in
-    let a = start .args in
-    let s = stepping .step-in in
-    let m = s .last .1 .1 .0 in
-    let t = s .last .1 .1 .1 .0 in
-    let on = stepping .before .before .before .on-ring in
-    let rights = on .ensures ∙ ap (λ (r : Rights). onRing r (l .ring)) (level .ensures .0) in
-    let b : Level = levelOn (l .file) (a .p) (l .ring) (l .mem) (l .tables) in
-    let d : Level = levelOn (s .result .file) (a .p) (s .result .ring) m t in
-    let e : Event = s .result .event in
-    let one : Steps (a .paging) b d e =
-    stepped (a .paging) (a .p) (l .ring) (l .file) (l .mem) (l .tables) (s .result) m t (l .inv .1 .0 .1) rights
-    (s .ensures .1) in
+    let e : Event = s .step-in .result .event in
     let fine : e ≡ Fine = fine-event e (not-false (isFine e) (sym (c .before .ends .ensures) ∙ c .if1 .left)) in
-    let fewer : a .n - l .left < a .n = omega (arith, tested .loop-test .taken, l .inv .1 .0 .0) in
-    let more = then-quiet (l .inv .0) fewer d (subst (Steps (a .paging) b d) fine one) in
+    let quiet : Steps (a .paging) (here s) (there s) Fine = subst (Steps (a .paging) (here s) (there s)) fine (one s) in
     let next : suc (a .n - l .left) ≡ a .n - (l .left - 1) = omega (arith, tested .loop-test .taken, l .inv .1 .0 .0) in
     let less : l .left - 1 ≤ a .n = omega (arith, l .inv .1 .0 .0) in (
-      subst (λ (k : ℕ). Quiet (a .paging) (a .n) (begun (a .f) (a .p) (a .mem .now) (a .tables .now)) k d) next more,
-      ((less, s .ensures .0), (s .kept .1 .1 .0 ∙ l .inv .1 .1 .0, s .kept .1 .1 .1 .0 ∙ l .inv .1 .1 .1)),
+      subst (λ (k : ℕ). Quiet (a .paging) (a .n) (begun (a .f) (a .p) (a .mem .now) (a .tables .now)) k (there s)) next
+          (then-quiet (l .inv .0) (fewer tested) (there s) quiet),
+      (
+        (less, s .step-in .ensures .0),
+        (
+          s .step-in .kept .1 .1 .0 ∙ l .inv .1 .1 .0,
+          s .step-in .kept .1 .1 .1 .0 ∙ l .inv .1 .1 .1,
+        ),
+      ),
     )
 
 sub-burst-of-2 : tie.Need-sub-burst-of-2 Inv-loop μ-loop
@@ -172,9 +188,9 @@ same-length-3 c = search needs
 same-length-4 : tie.Need-same-length-4 Inv-loop μ-loop
 same-length-4 c = search needs
 
+-- all n steps were quiet
 returns-2 : tie.Need-returns-2 Inv-loop μ-loop
 returns-2 c =
-    -- all n steps were quiet
     let l = c .before .before .loop in
     let level = c .before .before .before in
     let start = level .before .before .before in

@@ -13,6 +13,10 @@ use borrow.Author.Needs.{needs}
 use Rattle.run_slice.proofs.advance.Statement.{statement}
 use Rattle.run_slice.proofs.advance.Tie as tie
 
+-- where the change of level was asked for: before it the function's start
+abbrev started : tie.After-change-due → tie.Start
+started c = let lent = c .before .before in lent .before .before .before .before
+
 change-due-requires : tie.Need-change-due-requires
 change-due-requires c κs = search needs
 
@@ -25,11 +29,13 @@ same-length c = search needs
 same-length-2 : tie.Need-same-length-2
 same-length-2 c = search needs
 
+-- a change of level
 returns : tie.Need-returns
 returns c =
-    let tested = c .before .before .before .before .before .before .before in
-    let k = tested .before .before .before .before .before .before .before in
-    let out = c .before .before .before .before .changed in
+    let changing = c .before .before .before .before in
+    let tested = changing .before .before .before in
+    let k = started (tested .before) in
+    let out = changing .changed in
     let s : State = pack (k .args .level) (k .args .c) (k .args .regs .now) (k .args .pcrs .now) in
     let due : dueAt (k .args .level) (k .args .c .control) ≡ true =
     sym (tested .before .change-due .ensures) ∙ tested .if1 .taken in
@@ -40,13 +46,13 @@ returns c =
 quiet-steps-requires : tie.Need-quiet-steps-requires
 quiet-steps-requires c κs = search needs
 
+-- the burst keeps the tables' size
 settled-requires : tie.Need-settled-requires
 settled-requires c κs =
     let lent = c .before .before .before .before in
     let bursting = lent .before .before .before .before in
     let tested = bursting .before .before .before .before in
-    let opened = tested .before .before .before .before in
-    let k = opened .before .before .before in
+    let k = started (tested .before) in
     (k .pre .0, (k .pre .1 .0, (k .pre .1 .1 .0, bursting .quiet-steps .kept .1 .1 .1 .1 .0 ∙ k .pre .1 .1 .1 .0)))
 
 same-length-3 : tie.Need-same-length-3
@@ -61,17 +67,16 @@ same-length-5 c = search needs
 same-length-6 : tie.Need-same-length-6
 same-length-6 c = search needs
 
+-- a burst, and what its last step leaves
 returns-2 : tie.Need-returns-2
 returns-2 c =
-    -- a burst, and what its last step leaves
     let lent = c .before .before .before .before in
     let settling = lent .before .before .before .before in
     let lending = settling .before .before .before .before in
     let found = lending .before .before .before .before in
     let bursting = found .before in
     let tested = bursting .before .before .before .before in
-    let opened = tested .before .before .before .before in
-    let k = opened .before .before .before in
+    let k = started (tested .before) in
     let due = sym (tested .before .change-due .ensures) in
     let stays : dueAt (k .args .level) (k .args .c .control) ≡ false = due ∙ tested .if1 .left in
     let burst = bursting .quiet-steps in

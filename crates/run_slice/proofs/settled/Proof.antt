@@ -6,6 +6,22 @@ use borrow.Author.Needs.{needs}
 use Rattle.run_slice.proofs.settled.Statement.{statement}
 use Rattle.run_slice.proofs.settled.Tie as tie
 
+-- places: the call of settle before the end, that of after_event before it, and the function's start
+abbrev settling : tie.After-core → tie.After-settle
+settling c =
+    let tables = c .before .before .before .before in
+    let pcrs = tables .before .before .before .before in
+    pcrs .before
+
+abbrev telling : tie.After-settle → tie.After-after-event
+telling c =
+    let lent = c .before .before .before .before in
+    let tables = lent .before .before .before .before in
+    tables .before
+
+abbrev started : tie.After-after-event → tie.Start
+started c = let opened = c .before .before .before .before in opened .before .before .before .before
+
 after-event-requires : tie.Need-after-event-requires
 after-event-requires c κs = search needs
 
@@ -26,13 +42,11 @@ same-length-4 c = search needs
 
 returns : tie.Need-returns
 returns c =
-    let settling = c .before .before .before .before .before .before .before .before .before in
-    let told = settling .before .before .before .before .before .before .before .before .before in
-    let k = told .before .before .before .before .before .before .before .before in
-    let after = told .after-event in (
+    let done = settling c in
+    let told = telling done in
+    let a = started told .args in (
       (refl, refl),
-      settling .settle .ensures
-          ∙ ap (leaves (k .args .level) (k .args .regs .now) (k .args .pcrs .now)) (after .ensures),
+      done .settle .ensures ∙ ap (leaves (a .level) (a .regs .now) (a .pcrs .now)) (told .after-event .ensures),
     )
 
 pub settled-spec : {M : Type 1} → statement M

@@ -12,13 +12,20 @@ use borrow.Author.Needs.{needs}
 use Rattle.trap.proofs.deposited.Statement.{statement}
 use Rattle.trap.proofs.deposited.Tie as tie
 
+-- places: the physical address translated, before T is taken; and before that the function's start
+abbrev translated : tie.After-get → tie.After-physical
+translated c = let passed = c .before .before .before .before in passed .before .before
+
+abbrev started : tie.After-physical → tie.Start
+started c = c .before .before .before .before
+
 -- the translation of the physical address
 place : (k : tie.After-physical)
-    → k .physical .result ≡ withinMemory (length (k .before .before .before .before .args .mem .now)) Write
-    (physicalAddress (k .before .before .before .before .args .c .file))
+    → k .physical .result ≡ withinMemory (length (started k .args .mem .now)) Write
+    (physicalAddress (started k .args .c .file))
 place k =
     k .physical .ensures
-    ∙ ap (withinMemory (length (k .before .before .before .before .args .mem .now)) Write)
+    ∙ ap (withinMemory (length (started k .args .mem .now)) Write)
     (k .before .physical-address .ensures)
 
 physical-address-requires : tie.Need-physical-address-requires
@@ -35,9 +42,7 @@ get-requires c κs = search needs
 
 store-at-requires : tie.Need-store-at-requires
 store-at-requires c κs =
-    let then = c .before .before .before .before .before .before .before .before .before in
-    let start = then .before in
-    (place-within _ Write _ (place (c .before .before .before .before .before .before)), start .pre)
+    (place-within _ Write _ (place (translated c)), started (translated c) .pre)
 
 left-requires : tie.Need-left-requires
 left-requires c κs = search needs
@@ -48,21 +53,26 @@ same-length c = search needs
 same-length-2 : tie.Need-same-length-2
 same-length-2 c = search needs
 
+-- within memory
 returns : tie.Need-returns
 unfolding deposited
 returns c =
-    let i = c .before .before .before .before .before .before .before .before .before .before in
+    let lent = c .before .before .before .before in
+    let stored = lent .before in
+    let got = stored .before in
+    let i = got .before .before .before .before in
     let k = i .before .before in
     let q = in-memory _ Write _ (place k)
     (passes-zero (k .physical .result) (i .before .fault-of .ensures) (i .if1 .taken)) in
     c .left .ensures _ _
-    ∙ ap (λ (r : Lent). part (k .before .before .before .before .args .c) 0 Nothing (r .memory) (r .tables))
-    (c .before .before .before .before .before .store-at .ensures)
-    ∙ simp (q .0, q .1, c .before .before .before .before .before .before .get .ensures)
+    ∙ ap (λ (r : Lent). part (started k .args .c) 0 Nothing (r .memory) (r .tables))
+    (stored .store-at .ensures)
+    ∙ simp (q .0, q .1, got .get .ensures)
 
 failed-requires : tie.Need-failed-requires
 failed-requires c κs = search needs
 
+-- past it
 returns-2 : tie.Need-returns-2
 unfolding deposited
 returns-2 c =

@@ -11,13 +11,20 @@ use borrow.Author.Needs.{needs}
 use Rattle.trap.proofs.examined.Statement.{statement}
 use Rattle.trap.proofs.examined.Tie as tie
 
+-- places: the physical address translated, before its file is taken; and before that the function's start
+abbrev translated : tie.After-f → tie.After-physical
+translated c = c .before .before .before
+
+abbrev started : tie.After-physical → tie.Start
+started c = c .before .before .before .before
+
 -- the translation of the physical address
 place : (k : tie.After-physical)
-    → k .physical .result ≡ withinMemory (length (k .before .before .before .before .args .mem .now)) Read
-    (physicalAddress (k .before .before .before .before .args .c .file))
+    → k .physical .result ≡ withinMemory (length (started k .args .mem .now)) Read
+    (physicalAddress (started k .args .c .file))
 place k =
     k .physical .ensures
-    ∙ ap (withinMemory (length (k .before .before .before .before .args .mem .now)) Read)
+    ∙ ap (withinMemory (length (started k .args .mem .now)) Read)
     (k .before .physical-address .ensures)
 
 physical-address-requires : tie.Need-physical-address-requires
@@ -31,8 +38,8 @@ fault-of-requires c κs = search needs
 
 word-at-requires : tie.Need-word-at-requires
 word-at-requires c κs = (
-  place-within _ Read _ (place (c .before .before .before)),
-  c .before .before .before .before .before .before .before .pre,
+  place-within _ Read _ (place (translated c)),
+  started (translated c) .pre,
 )
 
 with-requires : tie.Need-with-requires
@@ -44,10 +51,12 @@ with-file-requires c κs = search needs
 left-requires : tie.Need-left-requires
 left-requires c κs = search needs
 
+-- within memory
 returns : tie.Need-returns
 unfolding examined
 returns c =
-    let i = c .before .before .before .before .before in
+    let got = c .before .before .before .before in
+    let i = got .before in
     let k = i .before .before in
     let q = in-memory _ Read _ (place k)
     (passes-zero (k .physical .result) (i .before .fault-of .ensures) (i .if1 .taken)) in
@@ -63,6 +72,7 @@ returns c =
 failed-requires : tie.Need-failed-requires
 failed-requires c κs = search needs
 
+-- past it
 returns-2 : tie.Need-returns-2
 unfolding examined
 returns-2 c =

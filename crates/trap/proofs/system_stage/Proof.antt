@@ -80,24 +80,31 @@ enum-told-7 c = search needs
 trapped-requires-3 : tie.Need-trapped-requires-3
 trapped-requires-3 c κs = search needs
 
+-- a control instruction
 returns : tie.Need-returns
 returns c = c .left .ensures _ _ ∙ simp (c .before .controlled .ensures, c .before .before .before .q .given .1)
 
+-- TRA PGC
 returns-2 : tie.Need-returns-2
 returns-2 c = simp (c .before .enum-told .given .1) (c .left2 .ensures _ _)
 
+-- TRR PCR
 returns-3 : tie.Need-returns-3
 returns-3 c = simp (c .before .enum-told2 .given .1) (c .left3 .ensures _ _)
 
+-- IRR
 returns-4 : tie.Need-returns-4
 returns-4 c = simp (c .before .before .q2 .given .1) (c .left4 .ensures _ _)
 
+-- IRW
 returns-5 : tie.Need-returns-5
 returns-5 c = simp (c .before .before .q3 .given .1) (c .left5 .ensures _ _)
 
+-- SRB
 returns-6 : tie.Need-returns-6
 returns-6 c = simp (c .before .before .q4 .given .1) (c .left6 .ensures _ _)
 
+-- LRB
 returns-7 : tie.Need-returns-7
 returns-7 c = simp (c .before .before .q5 .given .1) (c .left7 .ensures _ _)
 
@@ -107,6 +114,7 @@ same-length c = search needs
 same-length-2 : tie.Need-same-length-2
 same-length-2 c = search needs
 
+-- EXAM
 returns-8 : tie.Need-returns-8
 returns-8 c = simp (c .before .before .before .enum-told3 .given .1) (c .examined .ensures _)
 
@@ -116,17 +124,21 @@ same-length-3 c = search needs
 same-length-4 : tie.Need-same-length-4
 same-length-4 c = search needs
 
+-- DEPO
 returns-9 : tie.Need-returns-9
 returns-9 c =
-    simp (c .before .before .before .before .before .before .before .enum-told4 .given .1)
-    (c .before .before .before .before .deposited .ensures)
+    let done = c .before .before .before .before in
+    simp (done .before .before .before .enum-told4 .given .1) (done .deposited .ensures)
 
+-- IOX
 returns-10 : tie.Need-returns-10
 returns-10 c = simp (c .before .enum-told5 .given .1) (c .trapped .ensures _ _)
 
+-- IOXT
 returns-11 : tie.Need-returns-11
 returns-11 c = simp (c .before .enum-told6 .given .1) (c .trapped2 .ensures _ _)
 
+-- IDENT
 returns-12 : tie.Need-returns-12
 returns-12 c = simp (c .before .enum-told7 .given .1) (c .trapped3 .ensures _ _)
 

@@ -64,14 +64,14 @@ written-requires c κs = search needs
 enum-known-o-3 : tie.Need-enum-known-o-3
 enum-known-o-3 c = search needs
 
-cleared-requires : tie.Need-cleared-requires
-cleared-requires c κs = search needs
+bits-cleared-requires : tie.Need-bits-cleared-requires
+bits-cleared-requires c κs = search needs
 
 enum-known-o-4 : tie.Need-enum-known-o-4
 enum-known-o-4 c = search needs
 
-masked-requires : tie.Need-masked-requires
-masked-requires c κs = search needs
+bits-set-requires : tie.Need-bits-set-requires
+bits-set-requires c κs = search needs
 
 -- Ion
 returns : tie.Need-returns
@@ -111,11 +111,11 @@ returns-9 c = simp (c .written .ensures, c .before .before .o2 .given .1)
 
 -- Mcl(r)
 returns-10 : tie.Need-returns-10
-returns-10 c = simp (c .cleared .ensures, c .before .before .o3 .given .1)
+returns-10 c = simp (c .bits-cleared .ensures, c .before .before .o3 .given .1)
 
 -- Mst(r)
 returns-11 : tie.Need-returns-11
-returns-11 c = simp (c .masked .ensures, c .before .before .o4 .given .1)
+returns-11 c = simp (c .bits-set .ensures, c .before .before .o4 .given .1)
 
 pub controlled-spec : {M : Type 1} → statement M
 controlled-spec =
@@ -141,9 +141,9 @@ controlled-spec =
     enum-known-o-2
     written-requires
     enum-known-o-3
-    cleared-requires
+    bits-cleared-requires
     enum-known-o-4
-    masked-requires
+    bits-set-requires
     returns
     returns-2
     returns-3
