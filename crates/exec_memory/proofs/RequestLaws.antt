@@ -192,6 +192,10 @@ module _ {t : List ℕ} {words : ℕ} {r : Rights} {x : Access} {y : Translation
   pub failed-test : passes y ≡ false
   failed-test = fails-other y (f .fault) e
 
+-- what was found of an access of the kind k to the operand x: its place y, the number n of its fault, the tables v left
+abbrev pub FoundAt : Kind → Operand → List ℕ → List ℕ → Translation → ℕ → List ℕ → Type 0
+FoundAt k x m t y n v = Found t (length m) (x .rights) (access k (x .alternate) (x .address)) y n v
+
 -- the first access of a request failed
 pub access-fails : (f : File) (m : List ℕ) {t : List ℕ} (q : Request) (x : Operand) {y : Access} {ys : List Access}
     {z : Translation} {n : ℕ} {v : List ℕ} → y ∷ ys ≡ accessesOf q (x .alternate) (x .address)
@@ -226,6 +230,19 @@ module _ (f : File) (k : Change) (x : Exchanged) where
   pub change-done : passes (x .fault) ≡ true
       → afterExchange f k x ≡ record { file = changeOf k f (x .word) .file; event = Fine }
   change-done h = simp h
+
+-- the ending e of a change, by the number n of its fault
+module _ (k : Change) (x : Exchanged) {n : ℕ} {e : Ending} (q : n ≡ faultOf (x .fault)) where
+  -- an access failed
+  pub exchange-fails : (n ≡ 0 → ⊥) → {f : File} → e ≡ record { file = f; event = Failed (x .fault) }
+      → e ≡ afterExchange f k x
+  exchange-fails h {f} y = y ∙ sym (change-failed f k x (fails-other (x .fault) q h))
+
+  -- both passed
+  pub exchange-passes : n ≡ 0 → (f : File) {g : File} → g ≡ changeOf k f (x .word) .file
+      → e ≡ record { file = g; event = Fine }
+      → e ≡ afterExchange f k x
+  exchange-passes h f i y = rw (y, i) (sym (change-done f k x (passes-zero (x .fault) q h)))
 
 -- ---- two or three words
 

@@ -1,18 +1,44 @@
 -- One access fails, or all pass and the words are stored or read.
 -- Assumes nothing.
-use mathlib.Core.Path.{ap, _∙_}
+use mathlib.Core.Path.{_≡_, ap, _∙_}
+use mathlib.Core.Bool.{true}
+use mathlib.Core.List.{[]}
+use lib.ListN.{length}
 use Rattle.isa.specs.Instructions.{loads}
-use Rattle.isa.specs.Pages.{wordsAt, storeAll}
-use Rattle.isa.specs.declared.machine.File.{File}
+use Rattle.isa.specs.Pages.{wordsAt, storeAll, passes}
 use Rattle.exec_address.specs.Requests.{wordsLoaded}
-use Rattle.operand_words.specs.Accesses.{placesOf}
+use Rattle.operand_words.specs.Accesses.{placesOf, severalWords}
 use Rattle.exec_address.specs.declared.request.Request.the-variants.{Several}
+use Rattle.paging.specs.Outcome.{Outcome}
 use Rattle.paging.proofs.Outcomes.{passes-zero, fails-other}
+use Rattle.exec_memory.specs.Served.{severalKind}
 use Rattle.exec_memory.proofs.RequestLaws.{loaded-three, renamed, several-stored, several-loaded, several-read}
 use Rattle.exec_memory.proofs.RequestLaws.{three-stored, reads, stores, fails}
 use borrow.Author.Needs.{needs}
 use Rattle.exec_memory.proofs.several.words.Statement.{statement}
 use Rattle.exec_memory.proofs.several.words.Tie as tie
+
+-- the accesses tested, before their fault was looked for, and the function's start
+abbrev tested : tie.After-fault-in → tie.After-several
+tested c = c .before .before .before
+
+abbrev started : tie.After-several → tie.Start
+started t = let lent = t .before .before .before .before in lent .before
+
+-- what was found of them, by the kind of the request
+found : (c : tie.After-fault-in) →
+    let t = tested c in
+    let a = started t .args in
+    Outcome (a .tables .now) (length (a .mem .now)) (a .x .rights) []
+    (severalWords (severalKind (a .store)) (a .x .alternate) (a .x .address) (a .n)) (placesOf (t .several .result))
+    (c .fault-in .result) (t .several .last .0)
+found c =
+    let t = tested c in
+    renamed (started t .args .n) (t .before .kind-of .ensures) (c .fault-in .ensures) (t .several .ensures)
+
+-- they passed
+passed : (p : tie.Else1) → passes (p .before .before .fault-in .result) ≡ true
+passed p = passes-zero (p .before .before .fault-in .result) (p .before .fault-of .ensures) (p .if1 .left)
 
 kind-of-requires : tie.Need-kind-of-requires
 kind-of-requires c κs = search needs
@@ -35,27 +61,19 @@ same-length c = search needs
 returns : tie.Need-returns
 returns c =
     -- an access failed
-    let found = c .before .before .before in
-    let tested = found .before .before .before in
-    let lent = tested .before .before .before .before in
-    let start = lent .before in
-    let a = start .args in
-    let x = found .fault-in in
-    let o = renamed (a .n) (tested .before .kind-of .ensures) (x .ensures) (tested .several .ensures) in
-    let failed = fails-other (x .result) (c .before .before .fault-of .ensures) (c .before .if1 .taken) in
-    fails (a .f) (a .mem .now) (Several (a .store) (a .n)) (a .x) o failed (c .with-event .ensures)
+    let x = c .before .before .before in
+    let a = started (tested x) .args in
+    let failed = fails-other (x .fault-in .result) (c .before .before .fault-of .ensures) (c .before .if1 .taken) in
+    fails (a .f) (a .mem .now) (Several (a .store) (a .n)) (a .x) (found x) failed (c .with-event .ensures)
 
 stored-more-requires : tie.Need-stored-more-requires
 stored-more-requires c κs = search needs
 
 store-all-requires : tie.Need-store-all-requires
 store-all-requires c κs =
-    let passed = c .before .before .before .before in
-    let found = passed .before .before in
-    let tested = found .before .before .before in
-    let lent = tested .before .before .before .before in
-    let start = lent .before in
-    (tested .several .ensures .within, tested .several .kept .0 ∙ start .pre .1)
+    let p = c .before .before .before .before in
+    let t = tested (p .before .before) in
+    (t .several .ensures .within, t .several .kept .0 ∙ started t .pre .1)
 
 fine-requires : tie.Need-fine-requires
 fine-requires c κs = search needs
@@ -72,19 +90,13 @@ returns-2 c =
     let left = c .before .before .before .before in
     let stored = left .before in
     let store = stored .before .before .before .before in
-    let passed = store .before in
-    let found = passed .before .before in
-    let tested = found .before .before .before in
-    let lent = tested .before .before .before .before in
-    let start = lent .before in
-    let a = start .args in
-    let x = found .fault-in in
+    let p = store .before in
+    let t = tested (p .before .before) in
+    let a = started t .args in
     let m = a .mem .now in
-    let u = tested .several .last .0 in
-    let ps = placesOf (tested .several .result) in
-    let o = renamed (a .n) (tested .before .kind-of .ensures) (x .ensures) (tested .several .ensures) in
-    let z = passes-zero (x .result) (passed .before .fault-of .ensures) (passed .if1 .left) in
-    stores (a .f) m (Several (a .store) (a .n)) (a .x) o z (c .fine .ensures)
+    let u = t .several .last .0 in
+    let ps = placesOf (t .several .result) in
+    stores (a .f) m (Several (a .store) (a .n)) (a .x) (found (p .before .before)) (passed p) (c .fine .ensures)
     (several-stored (a .n) (store .if2 .taken) (a .f) (a .x .address) (wordsAt m u ps))
     (stored .store-all .ensures ∙ ap (storeAll m u ps) (stored .before .stored-more .ensures)
     ∙ three-stored m u ps (a .n) (a .f))
@@ -107,25 +119,19 @@ same-length-5 c = search needs
 returns-3 : tie.Need-returns-3
 returns-3 c =
     -- the words are read
-    let lent-words = c .before .before .before .before in
-    let read = lent-words .before in
-    let passed = read .before in
-    let found = passed .before .before in
-    let tested = found .before .before .before in
-    let lent = tested .before .before .before .before in
-    let start = lent .before in
-    let a = start .args in
-    let x = found .fault-in in
+    let taken = c .before .before in
+    let read = taken .before .before .before in
+    let p = read .before in
+    let t = tested (p .before .before) in
+    let a = started t .args in
     let m = a .mem .now in
-    let u = tested .several .last .0 in
-    let vs = wordsAt m u (placesOf (tested .several .result)) in
-    let o = renamed (a .n) (tested .before .kind-of .ensures) (x .ensures) (tested .several .ensures) in
-    let z = passes-zero (x .result) (passed .before .fault-of .ensures) (passed .if1 .left) in
-    let loaded = c .before .loaded-more .ensures ∙ ap (wordsLoaded (a .n) (a .f)) (c .before .before .read-all .ensures)
-    ∙ loaded-three m u (tested .several .result) (a .n) (a .f) in
-    reads (a .f) m (Several (a .store) (a .n)) (a .x) o z (c .fine2 .ensures)
+    let u = t .several .last .0 in
+    let loaded = c .before .loaded-more .ensures ∙ ap (wordsLoaded (a .n) (a .f)) (taken .read-all .ensures)
+    ∙ loaded-three m u (t .several .result) (a .n) (a .f) in
+    reads (a .f) m (Several (a .store) (a .n)) (a .x) (found (p .before .before)) (passed p) (c .fine2 .ensures)
     (several-read (a .n) (read .if2 .left) (a .x .alternate) (a .x .address))
-    (ap loads loaded ∙ several-loaded (a .n) (read .if2 .left) (a .f) (a .x .address) vs)
+    (ap loads loaded
+    ∙ several-loaded (a .n) (read .if2 .left) (a .f) (a .x .address) (wordsAt m u (placesOf (t .several .result))))
 
 pub words-spec : {M : Type 1} → statement M
 words-spec =

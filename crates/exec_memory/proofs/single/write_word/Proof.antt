@@ -1,12 +1,27 @@
 -- The access fails, or passes and the word is stored.
 -- Assumes nothing.
 use mathlib.Core.Path.{refl, _∙_}
+use Rattle.isa.specs.declared.access.Kind.the-variants as kinds
 use Rattle.exec_address.specs.declared.request.Request.the-variants.{Write}
 use Rattle.paging.proofs.Outcomes.{found-by, found-within}
-use Rattle.exec_memory.proofs.RequestLaws.{access-fails, one-passed, stores}
+use Rattle.exec_memory.proofs.RequestLaws.{FoundAt, access-fails, one-passed, stores}
 use borrow.Author.Needs.{needs}
 use Rattle.exec_memory.proofs.single.write_word.Statement.{statement}
 use Rattle.exec_memory.proofs.single.write_word.Tie as tie
+
+-- the access, before its fault was looked at, and the function's start
+abbrev translated : tie.After-fault-of → tie.After-translate
+translated t = t .before .before .before
+
+abbrev started : tie.After-fault-of → tie.Start
+started t = let lent = translated t .before .before .before in lent .before .before
+
+-- what was found of it
+found : (t : tie.After-fault-of) →
+    let a = started t .args in
+    let y = translated t .translate in
+    FoundAt kinds.Write (a .x) (a .mem .now) (a .tables .now) (y .result) (t .fault-of .result) (y .last .0)
+found t = found-by (translated t .translate .ensures) (t .fault-of .ensures)
 
 translate-requires : tie.Need-translate-requires
 translate-requires c κs = search needs
@@ -23,23 +38,15 @@ same-length c = search needs
 returns : tie.Need-returns
 returns c =
     -- the access failed
-    let tested = c .before .before in
-    let found = tested .before .before .before in
-    let lent = found .before .before .before .before in
-    let start = lent .before in
-    let a = start .args in
-    access-fails (a .f) (a .mem .now) (Write (a .w)) (a .x) refl
-    (found-by (found .translate .ensures) (tested .fault-of .ensures)) (c .before .if1 .taken) (c .with-event .ensures)
+    let t = c .before .before in
+    let a = started t .args in
+    access-fails (a .f) (a .mem .now) (Write (a .w)) (a .x) refl (found t) (c .before .if1 .taken)
+    (c .with-event .ensures)
 
 store-at-requires : tie.Need-store-at-requires
 store-at-requires c κs =
-    let tested = c .before .before .before in
-    let found = tested .before .before .before in
-    let lent = found .before .before .before .before in
-    let start = lent .before in (
-      found-within (found-by (found .translate .ensures) (tested .fault-of .ensures)),
-      found .translate .kept .0 ∙ start .pre .1,
-    )
+    let t = c .before .before .before in
+    (found-within (found t), translated t .translate .kept .0 ∙ started t .pre .1)
 
 fine-requires : tie.Need-fine-requires
 fine-requires c κs = search needs
@@ -55,13 +62,10 @@ returns-2 c =
     -- the access passed
     let left = c .before .before .before .before in
     let stored = left .before in
-    let passed = stored .before .before .before in
-    let found = passed .before .before .before .before in
-    let lent = found .before .before .before .before in
-    let start = lent .before in
-    let a = start .args in
-    let f = found-by (found .translate .ensures) (passed .before .fault-of .ensures) in
-    stores (a .f) (a .mem .now) (Write (a .w)) (a .x) (one-passed f (passed .if1 .left)) refl (c .fine .ensures) refl
+    let p = stored .before .before .before in
+    let a = started (p .before) .args in
+    stores (a .f) (a .mem .now) (Write (a .w)) (a .x) (one-passed (found (p .before)) (p .if1 .left)) refl
+    (c .fine .ensures) refl
     (stored .store-at .ensures)
 
 pub write-word-spec : {M : Type 1} → statement M

@@ -1,14 +1,16 @@
 -- The change ends with a failed access, or goes on.
 -- Assumes nothing.
-use mathlib.Core.Path.{sym, subst, _∙_}
-use Rattle.event.specs.declared.Ending.{Ending}
-use Rattle.exec_address.specs.declared.request.Request.the-variants.{Update}
-use Rattle.paging.proofs.Outcomes.{passes-zero, fails-other}
-use Rattle.exec_memory.specs.Served.{Served}
-use Rattle.exec_memory.proofs.RequestLaws.{change-failed, change-done}
+use Rattle.exec_memory.proofs.RequestLaws.{exchange-fails, exchange-passes}
 use borrow.Author.Needs.{needs}
 use Rattle.exec_memory.proofs.update.update.Statement.{statement}
 use Rattle.exec_memory.proofs.update.update.Tie as tie
+
+-- the exchange, before its fault was looked at, and the function's start
+abbrev exchanged : tie.After-fault-of → tie.After-exchange
+exchanged t = let tables = t .before .before in tables .before .before .before
+
+abbrev started : tie.After-exchange → tie.Start
+started x = let lent = x .before .before .before .before in lent .before
 
 exchange-requires : tie.Need-exchange-requires
 exchange-requires c κs = search needs
@@ -28,16 +30,11 @@ same-length-2 c = search needs
 returns : tie.Need-returns
 returns c =
     -- an access failed
-    let tables = c .before .before .before .before in
-    let exchanged = tables .before .before .before in
-    let lent = exchanged .before .before .before .before in
-    let start = lent .before in
-    let a = start .args in
-    let x = exchanged .exchange in
-    let failed = fails-other (x .result .fault) (c .before .before .fault-of .ensures) (c .before .if1 .taken) in
-    subst (λ (e : Ending). Served (a .f) (Update (a .k)) (a .x) (a .mem .now) (a .tables .now) e (x .last .1 .0)
-    (x .last .1 .1 .0))
-    (change-failed (a .f) (a .k) (x .result) failed ∙ sym (c .with-event .ensures)) (x .ensures)
+    let t = c .before .before in
+    let x = exchanged t in
+    let k = started x .args .k in
+    rw (exchange-fails k (x .exchange .result) (t .fault-of .ensures) (c .before .if1 .taken) (c .with-event .ensures))
+    (x .exchange .ensures)
 
 after-change-requires : tie.Need-after-change-requires
 after-change-requires c κs = search needs
@@ -54,18 +51,11 @@ same-length-4 c = search needs
 returns-2 : tie.Need-returns-2
 returns-2 c =
     -- both passed
-    let tables = c .before .before .before .before in
-    let exchanged = tables .before .before .before .before in
-    let lent = exchanged .before .before .before .before in
-    let start = lent .before in
-    let a = start .args in
-    let x = exchanged .exchange in
-    let passed = passes-zero (x .result .fault) (c .before .before .before .fault-of .ensures)
-    (c .before .before .if1 .left) in
-    subst (λ (e : Ending). Served (a .f) (Update (a .k)) (a .x) (a .mem .now) (a .tables .now) e (x .last .1 .0)
-    (x .last .1 .1 .0))
-    (change-done (a .f) (a .k) (x .result) passed ∙ sym (simp (c .fine .ensures, c .before .after-change .ensures)))
-    (x .ensures)
+    let p = c .before .before in
+    let x = exchanged (p .before) in
+    let a = started x .args in
+    let passed = exchange-passes (a .k) (x .exchange .result) (p .before .fault-of .ensures) (p .if1 .left) (a .f) in
+    rw (passed (c .before .after-change .ensures) (c .fine .ensures)) (x .exchange .ensures)
 
 pub update-spec : {M : Type 1} → statement M
 update-spec =

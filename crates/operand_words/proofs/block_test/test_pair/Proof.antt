@@ -1,10 +1,37 @@
 -- One access, and after it another if it passed.
 -- Assumes nothing.
 use borrow.Author.Needs.{needs}
-use Rattle.isa.specs.Pages.{translate}
-use Rattle.paging.proofs.Outcomes.{found-by, found-within, found-passed, found-failed, done}
+use mathlib.Core.Bool.{true}
+use Rattle.isa.specs.Address.{access, sum}
+use Rattle.paging.proofs.Outcomes.{Found, found-by, found-within, found-passed, found-failed, done}
+use Rattle.operand_words.proofs.OperandLaws.{found-at}
 use Rattle.operand_words.proofs.block_test.test_pair.Statement.{statement}
 use Rattle.operand_words.proofs.block_test.test_pair.Tie as tie
+
+-- the first access, where it was tested, and that it passed before the second was
+abbrev first : tie.After-fault-of → tie.After-translate
+first t = t .before .before .before
+
+abbrev first-passed : tie.After-fault-of2 → tie.Then1
+first-passed t = let y = t .before .before .before in y .before .before .before
+
+-- what was found of the first access
+found-first : (t : tie.After-fault-of) →
+    let a = first t .before .before .before .args in
+    let y = first t .translate in
+    Found (a .tables .now) (a .words) (a .r) (access (a .k) true (a .a)) (y .result) (t .fault-of .result) (y .last .0)
+found-first t = found-by (first t .translate .ensures) (t .fault-of .ensures)
+
+-- .. and of the second, in the tables that the first left
+found-second : (t : tie.After-fault-of2) →
+    let x = first (first-passed t .before) in
+    let a = x .before .before .before .args in
+    let y = t .before .before .before .translate2 in
+    Found (x .translate .last .0) (a .words) (a .r) (access (a .k) true (sum (a .a) 1)) (y .result)
+    (t .fault-of2 .result) (y .last .0)
+found-second t =
+    let y = t .before .before .before in
+    found-at (y .before .wrapping-add-u16 .ensures) (y .translate2 .ensures) (t .fault-of2 .ensures)
 
 translate-requires : tie.Need-translate-requires
 translate-requires c κs = search needs
@@ -27,14 +54,10 @@ same-length c = search needs
 -- both passed
 returns : tie.Need-returns
 returns c =
-    let second = c .before .before .before .before in
-    let judged = second .before .before .before in
-    let first = judged .before .before .before .before in
-    let f = found-by (first .translate .ensures) (judged .before .fault-of .ensures) in
-    let sum = second .before .wrapping-add-u16 .ensures in
-    let g = found-by (simp sum at (second .translate2 .ensures)) (c .before .fault-of2 .ensures) in
-    found-passed f (judged .if1 .taken)
-    (found-passed g (c .if2 .taken) (done (found-within f, (found-within g, tt))))
+    let p = first-passed (c .before) in
+    let f = found-first (p .before) in
+    let g = found-second (c .before) in
+    found-passed f (p .if1 .taken) (found-passed g (c .if2 .taken) (done (found-within f, (found-within g, tt))))
 
 same-length-2 : tie.Need-same-length-2
 same-length-2 c = search needs
@@ -42,13 +65,10 @@ same-length-2 c = search needs
 -- the second failed
 returns-2 : tie.Need-returns-2
 returns-2 c =
-    let second = c .before .before .before .before in
-    let judged = second .before .before .before in
-    let first = judged .before .before .before .before in
-    let f = found-by (first .translate .ensures) (judged .before .fault-of .ensures) in
-    let sum = second .before .wrapping-add-u16 .ensures in
-    let g = found-by (simp sum at (second .translate2 .ensures)) (c .before .fault-of2 .ensures) in
-    found-passed f (judged .if1 .taken) (found-failed g (c .if2 .left) (found-within f, (found-within g, tt)))
+    let p = first-passed (c .before) in
+    let f = found-first (p .before) in
+    let g = found-second (c .before) in
+    found-passed f (p .if1 .taken) (found-failed g (c .if2 .left) (found-within f, (found-within g, tt)))
 
 same-length-3 : tie.Need-same-length-3
 same-length-3 c = search needs
@@ -56,7 +76,7 @@ same-length-3 c = search needs
 -- the first failed
 returns-3 : tie.Need-returns-3
 returns-3 c =
-    let f = found-by (c .before .before .before .before .translate .ensures) (c .before .fault-of .ensures) in
+    let f = found-first (c .before) in
     found-failed f (c .if1 .left) (found-within f, (found-within f, tt))
 
 pub test-pair-spec : {M : Type 1} → statement M

@@ -7,11 +7,17 @@ use Rattle.operand_words.specs.Blocks.{halfPlaces}
 use Rattle.operand_words.proofs.block_words.store_block.Statement.{statement}
 use Rattle.operand_words.proofs.block_words.store_block.Tie as tie
 
+-- the function's start, before the first half is stored, and the first half stored, before the second
+abbrev started : tie.After-store-half-arg2 → tie.Start
+started c = let entered = c .before .before .before in entered .before .before .before
+
+abbrev first : tie.After-store-half-arg4 → tie.After-store-half
+first c = let left = c .before .before .before in left .before .before .before
+
 -- the first half of the places
 store-half-requires : tie.Need-store-half-requires
 store-half-requires c κs =
-    let entered = c .before .before .before in
-    let start = entered .before .before .before in
+    let start = started c in
     let w = start .pre .0 .0 in
     let s = start .pre .0 .1 in (
       (
@@ -24,11 +30,8 @@ store-half-requires c κs =
 -- the second half, in what the first left
 store-half-requires-2 : tie.Need-store-half-requires-2
 store-half-requires-2 c κs =
-    let left = c .before .before .before in
-    let first = left .before .before .before in
-    let entered = first .before .before .before .before in
-    let start = entered .before .before .before in
-    let kept = first .store-half .kept in
+    let start = started (first c .before) in
+    let kept = first c .store-half .kept in
     ((rw (kept .0) (start .pre .0 .0 .1 .1 .1 .1), start .pre .0 .1 .1 .1 .1 .1), kept .1 .0 ∙ start .pre .1)
 
 same-length : tie.Need-same-length
@@ -41,13 +44,11 @@ same-length-2 c = search needs
 returns : tie.Need-returns
 returns c =
     let second = c .before .before .before .before in
-    let left = second .before .before .before .before in
-    let first = left .before .before .before in
-    let entered = first .before .before .before .before in
-    let a = entered .before .before .before .args in
+    let stored = first (second .before) in
+    let a = started (stored .before) .args in
     let w = a .w in
     second .store-half2 .ensures [] []
-    ∙ first .store-half .ensures (halfPlaces (a .b .second)) (w .d ∷ w .l ∷ w .sts ∷ w .b ∷ [])
+    ∙ stored .store-half .ensures (halfPlaces (a .b .second)) (w .d ∷ w .l ∷ w .sts ∷ w .b ∷ [])
 
 pub store-block-spec : {M : Type 1} → statement M
 store-block-spec =
