@@ -5,7 +5,10 @@ use Prim.Native.String.{String, [] as []ˢ, _∷_ as _∷ˢ_}
 use mathlib.Core.Bool.{cond}
 use mathlib.Core.List.{List, [], _∷_, _++_}
 use lib.Dec.{ltb}
+use Rattle.isa.specs.Machine.{reg}
 use Rattle.isa.specs.Answers.{refusalNumber}
+use Rattle.isa.specs.declared.machine.File.{File}
+use Rattle.isa.specs.declared.machine.Register.the-variants.{Sts, D, P, B, L, A, T, X}
 use Rattle.isa.specs.declared.answer.Reason.{Reason}
 use Rattle.isa.specs.declared.answer.Reason.the-variants.{Stopped, Level, Spent, Interrupt}
 use Rattle.turn_text.specs.declared.End.{End}
@@ -52,13 +55,16 @@ registerLines [] words = []
 registerLines (n ∷ names) [] = []
 registerLines (n ∷ names) (w ∷ words) = line (n ∷ []) (octal w) ++ registerLines names words
 
+abbrev pub oneLetter : File → List ℕ
+oneLetter f = reg f D ∷ reg f P ∷ reg f B ∷ reg f L ∷ reg f A ∷ reg f T ∷ reg f X ∷ []
+
 -- "prints reason (`stopped` or `spent`), steps and level in decimal, then the running level's registers in octal"
 abbrev pub endText : End → List ℕ
 endText e =
     line (ascii "ended") (reasonName (e .reason)) ++ line (ascii "steps") (decimal (e .steps))
     ++ line (ascii "level") (decimal (e .level))
-    ++ line (ascii "STS") (octal (e .sts))
-    ++ registerLines (ascii "DPBLATX") (e .d ∷ e .p ∷ e .b ∷ e .l ∷ e .a ∷ e .t ∷ e .x ∷ [])
+    ++ line (ascii "STS") (octal (reg (e .file) Sts))
+    ++ registerLines (ascii "DPBLATX") (oneLetter (e .file))
 
 -- "or `refused N`"
 abbrev pub textOf : Turned → List ℕ

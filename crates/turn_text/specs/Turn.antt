@@ -4,8 +4,9 @@ use mathlib.Core.Bool.{false, cond, not}
 use mathlib.Core.List.{List}
 use lib.ListN.{getD, length, replicate}
 use lib.Dec.{ltb, eqb}
-use Rattle.isa.specs.Machine.{fileSize, registerWords, controlCount, stateOf}
+use Rattle.isa.specs.Machine.{fileSize, registerWords, controlCount, number, fileAt, stateOf}
 use Rattle.isa.specs.Answers.{LoadCall, loadCall, runCall}
+use Rattle.isa.specs.declared.machine.Register.{Register}
 use Rattle.isa.specs.declared.machine.State.{State}
 use Rattle.isa.specs.declared.answer.Reason.{Reason}
 use Rattle.isa.specs.declared.answer.Refusal.the-variants.{Bodies}
@@ -19,8 +20,8 @@ use Rattle.turn_text.specs.declared.Turned.{Turned}
 use Rattle.turn_text.specs.declared.Turned.the-variants.{Refused, Ended}
 
 -- "registers at 8 × level + number", of the running level
-abbrev pub register : State → ℕ → ℕ
-register s n = getD (s .regs) (s .level * fileSize + n) 0
+abbrev pub register : State → Register → ℕ
+register s r = getD (s .regs) (s .level * fileSize + number r) 0
 
 -- "prints reason .. steps and level in decimal, then the running level's registers in octal"
 abbrev pub endOf : Reason → ℕ → State → End
@@ -28,14 +29,7 @@ endOf w k s = record {
   reason = w;
   steps = k;
   level = s .level;
-  sts = register s 0;
-  d = register s 1;
-  p = register s 2;
-  b = register s 3;
-  l = register s 4;
-  a = register s 5;
-  t = register s 6;
-  x = register s 7;
+  file = fileAt (s .regs) (s .level);
 }
 
 abbrev pub ranBy : RunAnswer → State → Turned

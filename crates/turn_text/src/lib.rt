@@ -9,18 +9,12 @@ use isa::answer::Refusal;
 use isa::answer::RunAnswer;
 use isa::constant::FILE_SIZE;
 use isa::constant::LEVEL_COUNT;
-use isa::constant::NUMBER_A;
-use isa::constant::NUMBER_B;
-use isa::constant::NUMBER_D;
-use isa::constant::NUMBER_L;
-use isa::constant::NUMBER_P;
-use isa::constant::NUMBER_STS;
-use isa::constant::NUMBER_T;
-use isa::constant::NUMBER_X;
 use isa::constant::PAGE_WORDS;
 use isa::constant::REGISTER_WORDS;
 use isa::constant::TABLE_WORDS;
 use isa::machine::Control;
+use isa::machine::File;
+use isa::machine::Register;
 use isa::machine::State;
 
 mod bytes;
@@ -38,14 +32,7 @@ pub struct End {
     pub reason: Reason,
     pub steps: u64,
     pub level: u16,
-    pub sts: u16,
-    pub d: u16,
-    pub p: u16,
-    pub b: u16,
-    pub l: u16,
-    pub a: u16,
-    pub t: u16,
-    pub x: u16,
+    pub file: File,
 }
 
 // What an image comes to.
@@ -55,10 +42,10 @@ pub enum Turned {
 }
 
 // A register of the running level.
-fn register(s: State, n: usize) -> u16
-    ensures { λ r. ⌜ r ≡ Turn·register s n ⌝ }
+fn register(s: State, r: Register) -> u16
+    ensures { λ v. ⌜ v ≡ Turn·register s r ⌝ }
 {
-    let i = s.level as usize * FILE_SIZE + n;
+    let i = s.level as usize * FILE_SIZE + r.index();
     if i < REGISTER_WORDS {
         return s.regs[i];
     }
@@ -72,14 +59,16 @@ fn end_of(w: Reason, k: u64, s: State) -> End
         reason: w,
         steps: k,
         level: s.level,
-        sts: register(s, NUMBER_STS),
-        d: register(s, NUMBER_D),
-        p: register(s, NUMBER_P),
-        b: register(s, NUMBER_B),
-        l: register(s, NUMBER_L),
-        a: register(s, NUMBER_A),
-        t: register(s, NUMBER_T),
-        x: register(s, NUMBER_X),
+        file: File {
+            sts: register(s, Register::Sts),
+            d: register(s, Register::D),
+            p: register(s, Register::P),
+            b: register(s, Register::B),
+            l: register(s, Register::L),
+            a: register(s, Register::A),
+            t: register(s, Register::T),
+            x: register(s, Register::X),
+        },
     }
 }
 

@@ -3,11 +3,13 @@ ghost use mathlib.Core.Path.{_≡_};
 ghost use mathlib.Core.List.{_++_};
 ghost use Prim.Native.Nat.{_+_, _*_, _≤_};
 ghost use lib.ListN.{length, take, drop};
-ghost use Rattle.turn_text.specs.Text.{ascii, decimal, octal, line, reasonName, registerLines, endText, textOf};
+ghost use Rattle.turn_text.specs.Text.{ascii, decimal, octal, line, reasonName, registerLines, oneLetter, endText, textOf};
 use crate::End;
 use crate::Turned;
 use io::decimal;
 use isa::answer::Reason;
+use isa::machine::File;
+use isa::machine::Register;
 use isa::number::refusal_number;
 
 // Bytes after the first `at` of the text; the text's new length.
@@ -100,6 +102,21 @@ fn put_reason(w: Reason, out: &mut [u8]) -> usize
     }
 }
 
+// The registers with a name of one letter.
+fn one_letter(f: File) -> [u16; 7]
+    ensures { λ r. ⌜ r ≡ oneLetter f ⌝ }
+{
+    [
+        f.get(Register::D),
+        f.get(Register::P),
+        f.get(Register::B),
+        f.get(Register::L),
+        f.get(Register::A),
+        f.get(Register::T),
+        f.get(Register::X),
+    ]
+}
+
 fn put_end(e: End, out: &mut [u8]) -> usize
     requires { ⌜ 144 ≤ length (now out) ⌝ }
     ensures { λ r. ⌜ r ≤ 144 ⌝ }
@@ -109,9 +126,11 @@ fn put_end(e: End, out: &mut [u8]) -> usize
     let a = put_reason(w, out);
     let b = put_number(&[b's', b't', b'e', b'p', b's'], e.steps, out, a);
     let c = put_number(&[b'l', b'e', b'v', b'e', b'l'], e.level as u64, out, b);
-    let d = put_register(&[b'S', b'T', b'S'], e.sts, out, c);
+    let f = e.file;
+    let d = put_register(&[b'S', b'T', b'S'], f.get(Register::Sts), out, c);
     let names = &[b'D', b'P', b'B', b'L', b'A', b'T', b'X'];
-    put_registers(names, &[e.d, e.p, e.b, e.l, e.a, e.t, e.x], out, d)
+    let words = one_letter(f);
+    put_registers(names, &words, out, d)
 }
 
 fn put_turned(t: Turned, out: &mut [u8]) -> usize

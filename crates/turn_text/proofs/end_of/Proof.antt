@@ -1,5 +1,6 @@
 -- Eight registers.
 -- Assumes nothing.
+use Rattle.isa.specs.Machine.{fileAt}
 use borrow.Author.Needs.{needs}
 use Rattle.turn_text.proofs.end_of.Statement.{statement}
 use Rattle.turn_text.proofs.end_of.Tie as tie
@@ -28,7 +29,9 @@ register-requires-7 c κs = search needs
 register-requires-8 : tie.Need-register-requires-8
 register-requires-8 c κs = search needs
 
+-- each register is that of the level
 returns : tie.Need-returns
+unfolding fileAt
 returns c =
     let at-register5 = c .before .before .before in
     let at-register2 = at-register5 .before .before .before in

@@ -14,6 +14,9 @@ cast-i c = search needs
 mul-i : tie.Need-mul-i
 mul-i c = search needs
 
+index-requires : tie.Need-index-requires
+index-requires c κs = search needs
+
 add-i : tie.Need-add-i
 add-i c = search needs
 
@@ -25,16 +28,16 @@ element-copy-out-result c = search needs
 
 -- a level below 16
 returns : tie.Need-returns
-returns c = search needs
+returns c = simp (c .before .before .index .ensures .0)
 
 -- a level above 15
 returns-2 : tie.Need-returns-2
 returns-2 c =
-    let start = c .before in
+    let start = c .before .before in
     let e : length (start .args .t1 .regs) ≡ registerWords =
     sym (length-map (start .args .t1 .regs) _) ∙ start .good .0 .1 .1 .0 .1 .0 .1 in
-    sym (List·getD-eq-default (start .args .t1 .regs) 0 (omega (arith, e)))
+    rw (← c .before .index .ensures .0) (sym (List·getD-eq-default (start .args .t1 .regs) 0 (omega (arith, e))))
 
 pub register-spec : {M : Type 1} → statement M
 register-spec =
-    tie.close (tie.spec cast-i mul-i add-i mul-result element-copy-out-result returns returns-2)
+    tie.close (tie.spec cast-i mul-i index-requires add-i mul-result element-copy-out-result returns returns-2)
