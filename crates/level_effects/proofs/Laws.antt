@@ -1,4 +1,4 @@
--- Laws of register blocks.
+-- Laws of what a step leaves, and of register blocks.
 -- Assumes nothing.
 use Rattle.isa.specs.Machine.{levelCount, registerWords}
 use Prim.Native.Nat.{ℕ, _%_, _<_}
@@ -27,10 +27,15 @@ use Rattle.operand_words.specs.declared.block.Block.{Block}
 use Rattle.operand_words.specs.declared.block.BlockWords.{BlockWords}
 use Rattle.operand_words.proofs.BlockLaws.{block-stored}
 use Rattle.isa.proofs.Packing.{register-at}
+use Rattle.levels.specs.Changes.{advancedTurn}
+use Rattle.levels.specs.declared.change.Advanced.{Advanced}
 use Rattle.levels.proofs.TransferLaws.{put-set, own-register}
 use Rattle.level_effects.specs.Blocks.{BlockTest, withBlock}
-use Rattle.level_effects.specs.Settled.{leaving, turnOf}
-use Rattle.level_effects.specs.declared.settle.Settled.{Settled}
+use Rattle.level_effects.specs.Leaving.{leaving}
+
+-- the level of what a step leaves, and the steps before it
+pub left-at : {l k : ℕ} {c : Core} {n : ℕ} {r : Advanced} → r ≡ leaving l k c n → (r .level ≡ l) × (r .before ≡ k)
+left-at e = (ap (λ (r : Advanced). r .level) e, ap (λ (r : Advanced). r .before) e)
 
 -- the registers of a level in the order of a list
 pub level-words :
@@ -176,9 +181,9 @@ module _ (l : ℕ) (c : Core) (q : Kind) (b m t : List ℕ) {r : Block} {d u : L
         ∙ ap (λ (s : State). turn s (faultOf (r .fault)) m u) (pack-pack l c b p (x .level) (x .registers) k left))
 
     pub not-moved :
-        {y : Settled} → y ≡ leaving left (faultOf (r .fault))
-        → (turnOf l y d p m u ≡ blockStored state n m test) × (turnOf l y d p m u ≡ blockLoaded state n m test)
+        {y : Advanced} {j : ℕ} → y ≡ leaving l j left (faultOf (r .fault))
+        → (advancedTurn y d p m u ≡ blockStored state n m test) × (advancedTurn y d p m u ≡ blockLoaded state n m test)
     unfolding blockStored blockLoaded
     not-moved z =
-        let e = ap (λ (y : Settled). turnOf l y d p m u) z ∙ failed-here in
+        let e = ap (λ (y : Advanced). advancedTurn y d p m u) z ∙ failed-here in
         (e ∙ sym (simp fault-here), e ∙ sym (simp fault-here))

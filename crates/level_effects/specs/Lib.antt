@@ -1,3 +1,3 @@
 -- What the functions answer to, beside the definitions of the machine.
-pub mod Settled
+pub mod Leaving
 pub mod Blocks

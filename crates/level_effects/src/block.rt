@@ -13,9 +13,9 @@ ghost use Rattle.isa.specs.declared.access.Kind.the-variants.{Read, Write};
 ghost use Rattle.isa.specs.declared.machine.Register.the-variants.{P};
 ghost use Rattle.isa.specs.declared.machine.State.{State};
 ghost use Rattle.operand_words.specs.Blocks.{listOf};
+ghost use Rattle.levels.specs.Changes.{advancedTurn};
 ghost use Rattle.level_effects.specs.Blocks.{BlockTest, withBlock};
-ghost use Rattle.level_effects.specs.Settled.{leaving, turnOf};
-use crate::settle::Settled;
+ghost use Rattle.level_effects.specs.Leaving.{leaving};
 use isa::access::Kind;
 use isa::access::Translation;
 use isa::constant::LEVELS;
@@ -23,6 +23,7 @@ use isa::constant::STATUS_RANGE;
 use isa::machine::Core;
 use isa::machine::File;
 use isa::machine::Register;
+use levels::change::Advanced;
 use levels::file_at;
 use levels::put_file;
 use levels::registers::reloaded;
@@ -103,11 +104,13 @@ fn put_block(level: u16, regs: &mut [u16], l: u16, w: BlockWords)
 }
 
 // An access of the block failed: the fault is the running level's.
-fn block_failed(x: Translation, c: Core) -> Settled
-    ensures { λ r. ⌜ r ≡ leaving (faulted x c) (faultOf x) ⌝ }
+fn block_failed(level: u16, before: u64, x: Translation, c: Core) -> Advanced
+    ensures { λ r. ⌜ r ≡ leaving level before (faulted x c) (faultOf x) ⌝ }
 {
-    Settled {
+    Advanced {
+        level: level,
         core: faulted(x, c),
+        before: before,
         gave: fault_of(x),
     }
 }
@@ -115,17 +118,19 @@ fn block_failed(x: Translation, c: Core) -> Settled
 // SRB: the registers of a level to memory.
 pub fn block_stored(
     level: u16,
+    before: u64,
     c: Core,
     regs: &mut [u16],
     mem: &mut [u16],
     tables: &mut [u16],
     l: u16,
-) -> Settled
+) -> Advanced
     requires { ⌜ level < levelCount ⌝ }
     requires { ⌜ length (now regs) ≡ registerWords ⌝ }
     requires { ⌜ length (now tables) ≡ tableWords ⌝ }
+    ensures { λ r. ⌜ (r .level ≡ level) × (r .before ≡ before) ⌝ }
     ensures { λ r. ⌜ ((p : List ℕ) → length p ≡ levelCount
-        → turnOf level r (now (regs .exit)) p (now (mem .exit)) (now (tables .exit))
+        → advancedTurn r (now (regs .exit)) p (now (mem .exit)) (now (tables .exit))
         ≡ blockStored (pack level c (now (regs .entry)) p) l (now (mem .entry))
         (blockTested Write (pack level c (now (regs .entry)) p) (now (mem .entry)) (now (tables .entry)))) ⌝ }
 {
@@ -133,25 +138,32 @@ pub fn block_stored(
     let x = b.fault;
     if fault_of(x) == 0 {
         store_block(mem, tables, b, block_words(regs, l));
-        return Settled { core: c, gave: 0 };
+        return Advanced {
+            level: level,
+            core: c,
+            before: before,
+            gave: 0,
+        };
     }
-    block_failed(x, c)
+    block_failed(level, before, x, c)
 }
 
 // LRB: the registers of a level from memory.
 pub fn block_loaded(
     level: u16,
+    before: u64,
     c: Core,
     regs: &mut [u16],
     mem: &[u16],
     tables: &mut [u16],
     l: u16,
-) -> Settled
+) -> Advanced
     requires { ⌜ level < levelCount ⌝ }
     requires { ⌜ length (now regs) ≡ registerWords ⌝ }
     requires { ⌜ length (now tables) ≡ tableWords ⌝ }
+    ensures { λ r. ⌜ (r .level ≡ level) × (r .before ≡ before) ⌝ }
     ensures { λ r. ⌜ ((p : List ℕ) → length p ≡ levelCount
-        → turnOf level r (now (regs .exit)) p (now (mem .entry)) (now (tables .exit))
+        → advancedTurn r (now (regs .exit)) p (now (mem .entry)) (now (tables .exit))
         ≡ blockLoaded (pack level c (now (regs .entry)) p) l (now (mem .entry))
         (blockTested Read (pack level c (now (regs .entry)) p) (now (mem .entry)) (now (tables .entry)))) ⌝ }
 {
@@ -159,10 +171,12 @@ pub fn block_loaded(
     let x = b.fault;
     if fault_of(x) == 0 {
         put_block(level, regs, l, read_block(mem, tables, b));
-        return Settled {
+        return Advanced {
+            level: level,
             core: reloaded(level, c, regs),
+            before: before,
             gave: 0,
         };
     }
-    block_failed(x, c)
+    block_failed(level, before, x, c)
 }

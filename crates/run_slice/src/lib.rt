@@ -47,14 +47,7 @@ fn settled(
         control: k,
     };
     let n = after_event(level, c, mem, tables, e);
-    let s = settle(level, n, regs, pcrs, mem, tables);
-    let core = s.core;
-    Advanced {
-        level: level,
-        core: core,
-        before: b.before,
-        gave: s.gave,
-    }
+    settle(level, b.before, n, regs, pcrs, mem, tables)
 }
 
 // At most n steps, one or more, of a machine that is not stopped: a change of level, or a burst.

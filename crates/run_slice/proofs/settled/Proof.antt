@@ -1,17 +1,14 @@
 -- The event's part is settled in the machine.
 -- Assumes nothing.
-use mathlib.Core.Path.{refl, ap, _∙_}
+use mathlib.Core.Path.{ap, _∙_}
 use Rattle.run_level.specs.Bursts.{leaves}
 use borrow.Author.Needs.{needs}
 use Rattle.run_slice.proofs.settled.Statement.{statement}
 use Rattle.run_slice.proofs.settled.Tie as tie
 
 -- places: the call of settle before the end, that of after_event before it, and the function's start
-abbrev settling : tie.After-core → tie.After-settle
-settling c =
-    let tables = c .before .before .before .before in
-    let pcrs = tables .before .before .before .before in
-    pcrs .before
+abbrev settling : tie.After-slice-known10 → tie.After-settle
+settling c = let tables = c .before .before .before .before in tables .before .before .before .before
 
 abbrev telling : tie.After-settle → tie.After-after-event
 telling c =
@@ -40,14 +37,14 @@ same-length-3 c = search needs
 same-length-4 : tie.Need-same-length-4
 same-length-4 c = search needs
 
+-- what settle leaves of the event's part
 returns : tie.Need-returns
 returns c =
     let done = settling c in
     let told = telling done in
-    let a = started told .args in (
-      (refl, refl),
-      done .settle .ensures ∙ ap (leaves (a .level) (a .regs .now) (a .pcrs .now)) (told .after-event .ensures),
-    )
+    let a = started told .args in
+    let e = ap (leaves (a .level) (a .regs .now) (a .pcrs .now)) (told .after-event .ensures) in
+    (done .settle .ensures .0, done .settle .ensures .1 ∙ e)
 
 pub settled-spec : {M : Type 1} → statement M
 settled-spec =

@@ -3,7 +3,7 @@
 use mathlib.Core.Path.{refl, _∙_}
 use Rattle.isa.specs.Machine.{pack}
 use Rattle.isa.specs.declared.access.Kind.the-variants.{Read}
-use Rattle.level_effects.proofs.Laws.{block-from-memory, not-moved}
+use Rattle.level_effects.proofs.Laws.{left-at, block-from-memory, not-moved}
 use borrow.Author.Needs.{needs}
 use Rattle.level_effects.proofs.block.block_loaded.Statement.{statement}
 use Rattle.level_effects.proofs.block.block_loaded.Tie as tie
@@ -46,9 +46,12 @@ returns c =
     let asked = lent .before .before .before in
     let entered = asked .before .before .before in
     let a = entered .before .before .before .args in
-    λ p q. block-from-memory _ _ Read _ _ _ (asked .tested .ensures) p q
-    (judged .before .fault-of .ensures) (judged .if1 .taken) _ (put .before .read-block .ensures)
-    (c .reloaded .ensures (a .regs .now) p ∙ put .put-block .ensures (pack (a .level) (a .c) (a .regs .now) p) refl)
+    let f = judged .before .fault-of .ensures in (
+      (refl, refl),
+      λ p q. block-from-memory _ _ Read _ _ _ (asked .tested .ensures) p q f (judged .if1 .taken) _
+          (put .before .read-block .ensures)
+          (c .reloaded .ensures (a .regs .now) p ∙ put .put-block .ensures (pack (a .level) (a .c) (a .regs .now) p) refl),
+    )
 
 block-failed-requires : tie.Need-block-failed-requires
 block-failed-requires c κs = search needs
@@ -65,8 +68,9 @@ returns-2 c =
     let judged = c .before in
     let lent = judged .before .before .before in
     let asked = lent .before .before .before in
-    λ p q. not-moved _ _ Read _ _ _ (asked .tested .ensures) p q (judged .before .fault-of .ensures)
-    (judged .if1 .left) _ (c .block-failed .ensures) .1
+    let f = judged .before .fault-of .ensures in
+    let e = c .block-failed .ensures in
+    (left-at e, λ p q. not-moved _ _ Read _ _ _ (asked .tested .ensures) p q f (judged .if1 .left) _ e .1)
 
 pub block-loaded-spec : {M : Type 1} → statement M
 block-loaded-spec =

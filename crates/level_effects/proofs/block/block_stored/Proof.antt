@@ -1,9 +1,9 @@
 -- The words go to memory when all accesses passed; else the fault is the running level's.
 -- Assumes nothing.
-use mathlib.Core.Path.{_∙_}
+use mathlib.Core.Path.{refl, _∙_}
 use Rattle.isa.specs.Machine.{pack}
 use Rattle.isa.specs.declared.access.Kind.the-variants.{Write}
-use Rattle.level_effects.proofs.Laws.{block-storing, block-to-memory, not-moved}
+use Rattle.level_effects.proofs.Laws.{left-at, block-storing, block-to-memory, not-moved}
 use borrow.Author.Needs.{needs}
 use Rattle.level_effects.proofs.block.block_stored.Statement.{statement}
 use Rattle.level_effects.proofs.block.block_stored.Tie as tie
@@ -47,9 +47,11 @@ returns c =
     let asked = lent .before .before .before in
     let entered = asked .before .before .before in
     let a = entered .before .before .before .args in
-    λ p q. block-to-memory _ _ Write _ _ _ (asked .tested .ensures) p q (judged .before .fault-of .ensures)
-    (judged .if1 .taken) _
-    (words .block-words .ensures (pack (a .level) (a .c) (a .regs .now) p)) (stored .store-block .ensures)
+    let f = judged .before .fault-of .ensures in (
+      (refl, refl),
+      λ p q. block-to-memory _ _ Write _ _ _ (asked .tested .ensures) p q f (judged .if1 .taken) _
+          (words .block-words .ensures (pack (a .level) (a .c) (a .regs .now) p)) (stored .store-block .ensures),
+    )
 
 block-failed-requires : tie.Need-block-failed-requires
 block-failed-requires c κs = search needs
@@ -66,8 +68,9 @@ returns-2 c =
     let judged = c .before in
     let lent = judged .before .before .before in
     let asked = lent .before .before .before in
-    λ p q. not-moved _ _ Write _ _ _ (asked .tested .ensures) p q (judged .before .fault-of .ensures)
-    (judged .if1 .left) _ (c .block-failed .ensures) .0
+    let f = judged .before .fault-of .ensures in
+    let e = c .block-failed .ensures in
+    (left-at e, λ p q. not-moved _ _ Write _ _ _ (asked .tested .ensures) p q f (judged .if1 .left) _ e .0)
 
 pub block-stored-spec : {M : Type 1} → statement M
 block-stored-spec =

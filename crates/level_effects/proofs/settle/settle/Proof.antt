@@ -3,9 +3,14 @@
 use mathlib.Core.Path.{ap}
 use Rattle.isa.specs.Step.{Turn, turn, farStage}
 use Rattle.isa.specs.declared.machine.State.{State}
+use Rattle.level_effects.proofs.Laws.{left-at}
 use borrow.Author.Needs.{needs}
 use Rattle.level_effects.proofs.settle.settle.Statement.{statement}
 use Rattle.level_effects.proofs.settle.settle.Tie as tie
+
+-- the function's start, before it is asked what is left
+abbrev started : tie.After-c → tie.Start
+started c = let lent = c .before .before .before .before in lent .before
 
 -- what a step leaves of the machine, from a state
 abbrev left : tie.Start → State → Turn
@@ -77,7 +82,7 @@ block-loaded-requires c κs = search needs
 -- nothing is left
 returns : tie.Need-returns
 unfolding farStage
-returns c = simp (c .before .enum-told .given .1, c .turned .ensures)
+returns c = (left-at (c .turned .ensures), simp (c .before .enum-told .given .1, c .turned .ensures))
 
 same-length : tie.Need-same-length
 same-length c = search needs
@@ -88,10 +93,9 @@ unfolding farStage
 returns-2 c =
     let done = c .before .before .before in
     let told = done .before .before .before in
-    let entered = told .before .before .before in
-    let start = entered .before .before .before .before in
-    simp (told .far .given .1, c .turned2 .ensures)
-    (ap (left start) (done .called .ensures (start .args .pcrs .now)))
+    let start = started (told .before .before) in
+    let e = ap (left start) (done .called .ensures (start .args .pcrs .now)) in
+    (left-at (c .turned2 .ensures), simp (told .far .given .1, c .turned2 .ensures) e)
 
 same-length-2 : tie.Need-same-length-2
 same-length-2 c = search needs
@@ -102,10 +106,9 @@ unfolding farStage
 returns-3 c =
     let done = c .before .before .before in
     let told = done .before .before .before in
-    let entered = told .before .before .before in
-    let start = entered .before .before .before .before in
-    simp (told .far2 .given .1, c .turned3 .ensures)
-    (ap (left start) (done .register-read .ensures (start .args .pcrs .now)))
+    let start = started (told .before .before) in
+    let e = ap (left start) (done .register-read .ensures (start .args .pcrs .now)) in
+    (left-at (c .turned3 .ensures), simp (told .far2 .given .1, c .turned3 .ensures) e)
 
 same-length-3 : tie.Need-same-length-3
 same-length-3 c = search needs
@@ -116,10 +119,9 @@ unfolding farStage
 returns-4 c =
     let done = c .before .before .before in
     let told = done .before .before .before in
-    let entered = told .before .before .before in
-    let start = entered .before .before .before .before in
-    simp (told .far3 .given .1, c .turned4 .ensures)
-    (ap (left start) (done .register-written .ensures (start .args .pcrs .now)))
+    let start = started (told .before .before) in
+    let e = ap (left start) (done .register-written .ensures (start .args .pcrs .now)) in
+    (left-at (c .turned4 .ensures), simp (told .far3 .given .1, c .turned4 .ensures) e)
 
 same-length-4 : tie.Need-same-length-4
 same-length-4 c = search needs
@@ -130,10 +132,9 @@ unfolding farStage
 returns-5 c =
     let done = c .before .before .before in
     let told = done .before .before in
-    let entered = told .before .before .before in
-    let start = entered .before .before .before .before in
-    simp (told .enum-told2 .given .1, c .turned5 .ensures)
-    (ap (left start) (done .pcr-read .ensures (start .args .regs .now) (start .pre .1 .0)))
+    let start = started (told .before .before) in
+    let e = ap (left start) (done .pcr-read .ensures (start .args .regs .now) (start .pre .1 .0)) in
+    (left-at (c .turned5 .ensures), simp (told .enum-told2 .given .1, c .turned5 .ensures) e)
 
 same-length-5 : tie.Need-same-length-5
 same-length-5 c = search needs
@@ -144,10 +145,9 @@ unfolding farStage
 returns-6 c =
     let done = c .before .before .before in
     let told = done .before .before in
-    let entered = told .before .before .before in
-    let start = entered .before .before .before .before in
-    simp (told .enum-told3 .given .1, c .turned6 .ensures)
-    (ap (left start) (done .pcr-written .ensures (start .args .regs .now) (start .pre .1 .0)))
+    let start = started (told .before .before) in
+    let e = ap (left start) (done .pcr-written .ensures (start .args .regs .now) (start .pre .1 .0)) in
+    (left-at (c .turned6 .ensures), simp (told .enum-told3 .given .1, c .turned6 .ensures) e)
 
 same-length-6 : tie.Need-same-length-6
 same-length-6 c = search needs
@@ -166,9 +166,9 @@ returns-7 c =
     let done = stored .before .before .before in
     let lent = done .before .before in
     let told = lent .before .before .before in
-    let entered = told .before .before .before in
-    let start = entered .before .before .before .before in
-    simp (told .far4 .given .1) (done .block-stored .ensures (start .args .pcrs .now) (start .pre .1 .1 .0))
+    let start = started (told .before .before) in
+    let e = done .block-stored .ensures .1 (start .args .pcrs .now) (start .pre .1 .1 .0) in
+    (done .block-stored .ensures .0, simp (told .far4 .given .1) e)
 
 same-length-9 : tie.Need-same-length-9
 same-length-9 c = search needs
@@ -186,9 +186,9 @@ returns-8 c =
     let done = c .before .before .before .before in
     let lent = done .before .before in
     let told = lent .before .before .before in
-    let entered = told .before .before .before in
-    let start = entered .before .before .before .before in
-    simp (told .far5 .given .1) (done .block-loaded .ensures (start .args .pcrs .now) (start .pre .1 .1 .0))
+    let start = started (told .before .before) in
+    let e = done .block-loaded .ensures .1 (start .args .pcrs .now) (start .pre .1 .1 .0) in
+    (done .block-loaded .ensures .0, simp (told .far5 .given .1) e)
 
 pub settle-spec : {M : Type 1} → statement M
 settle-spec =
