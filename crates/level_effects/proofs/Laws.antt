@@ -17,14 +17,13 @@ use Rattle.isa.specs.declared.access.Kind.the-variants.{Write}
 use Rattle.isa.specs.declared.machine.Core.{Core}
 use Rattle.isa.specs.declared.machine.File.{File}
 use Rattle.isa.specs.declared.machine.Register.{Register}
-use Rattle.isa.specs.declared.machine.Register.the-variants.{Sts, D, P, B, L, A, T, X}
+use Rattle.isa.specs.declared.machine.Register.the-variants.{Sts, P, X}
 use Rattle.isa.specs.declared.machine.State.{State}
 use Rattle.isa.proofs.Packing.{put-put, put-take, open-pack, pack-pack}
 use Rattle.paging.specs.Within.{AllWithin}
 use Rattle.paging.proofs.Outcomes.{passes-zero, fails-other}
 use Rattle.operand_words.specs.Blocks.{blockPlaces, listOf, AllStoring}
 use Rattle.operand_words.specs.declared.block.Block.{Block}
-use Rattle.operand_words.specs.declared.block.BlockWords.{BlockWords}
 use Rattle.operand_words.proofs.BlockLaws.{block-stored}
 use Rattle.isa.proofs.Packing.{register-at}
 use Rattle.levels.specs.Changes.{advancedTurn}
@@ -79,20 +78,12 @@ module _ (s : State) (b : List ℕ) (e : length b ≡ registerWords) (l : ℕ) w
       sym (file-block (fileAt b (l % 16)) blockOrder ws)
       ∙ ap (λ (x : List ℕ). putBlock (withRegs s x) l blockOrder ws) (put-take b (l % 16) h e)
 
--- the registers of a block one after the other, P left where the level is the running one
+-- the words of a block in a level's file, P left where the level is the running one
 pub registers-loaded :
-    (f : File) (own : Bool) (w : BlockWords) {f1 f2 f3 f4 f5 f6 f7 f8 : File}
-    → f1 ≡ withReg f P (cond own (reg f P) (w .p))
-    → f2 ≡ withReg f1 X (w .x)
-    → f3 ≡ withReg f2 T (w .t)
-    → f4 ≡ withReg f3 A (w .a)
-    → f5 ≡ withReg f4 D (w .d)
-    → f6 ≡ withReg f5 L (w .l)
-    → f7 ≡ withReg f6 Sts (w .sts % 256)
-    → f8 ≡ withReg f7 B (w .b)
-    → f8 ≡ withBlock own f blockOrder (listOf w)
-registers-loaded f true w p x t a d l s b = simp (b, s, l, d, a, t, x, p)
-registers-loaded f false w p x t a d l s b = simp (b, s, l, d, a, t, x, p)
+    (f : File) (own : Bool) (w : File)
+    → withReg (withReg w P (cond own (reg f P) (reg w P))) Sts (reg w Sts % 256) ≡ withBlock own f blockOrder (listOf w)
+registers-loaded f true w = refl
+registers-loaded f false w = refl
 
 -- all accesses of a block to be stored passed: its places lie in memory, and are to store to
 pub block-storing :
@@ -139,13 +130,16 @@ module _ (l : ℕ) (c : Core) (q : Kind) (b m t : List ℕ) {r : Block} {d u : L
         tested-here ∙ λ i. record { tables = v i; places = y i; fault = z i }
 
     pub block-to-memory :
-        {ws : List ℕ} → ws ≡ blockWords (withRegs state d) n blockOrder
+        {w : File} → w ≡ fileAt d (n % 16)
         → {j : Lent}
-        → j ≡ storeAll m u (blockPlaces r) ws
+        → j ≡ storeAll m u (blockPlaces r) (listOf w)
         → turn (pack l c d p) 0 (j .memory) (j .tables) ≡ blockStored state n m test
     unfolding blockStored
     block-to-memory y {j = j} z =
-        let words = y ∙ ap (λ (v : List ℕ). blockWords (withRegs state v) n blockOrder) (x .put) in
+        let words =
+        ap listOf y
+        ∙ level-words state d n blockOrder
+        ∙ ap (λ (v : List ℕ). blockWords (withRegs state v) n blockOrder) (x .put) in
         ap (λ (s : State). turn s 0 (j .memory) (j .tables)) (put-back c)
         ∙ ap (λ (v : Lent). turn state 0 (v .memory) (v .tables)) (z ∙ ap (storeAll m u (blockPlaces r)) words)
         ∙ sym (ap (blockStored state n m) passed-test ∙ simp g)

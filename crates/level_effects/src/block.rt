@@ -7,7 +7,7 @@ ghost use Prim.Native.Nat.{ℕ, _<_};
 ghost use lib.ListN.{length};
 ghost use Rattle.isa.specs.Machine.{reg, pack};
 ghost use Rattle.isa.specs.Pages.{faultOf};
-ghost use Rattle.isa.specs.Step.{faulted, withRegs, blockOrder, blockWords, putBlock, blockTested, blockStored};
+ghost use Rattle.isa.specs.Step.{faulted, withRegs, blockOrder, putBlock, blockTested, blockStored};
 ghost use Rattle.isa.specs.Step.{blockLoaded};
 ghost use Rattle.isa.specs.declared.access.Kind.the-variants.{Read, Write};
 ghost use Rattle.isa.specs.declared.machine.Register.the-variants.{P};
@@ -28,7 +28,6 @@ use levels::file_at;
 use levels::put_file;
 use levels::registers::reloaded;
 use operand_words::block::Block;
-use operand_words::block::BlockWords;
 use operand_words::block_test::test_block;
 use operand_words::block_words::read_block;
 use operand_words::block_words::store_block;
@@ -51,24 +50,6 @@ fn tested(level: u16, c: Core, regs: &mut [u16], words: usize, tables: &mut [u16
     test_block(tables, words, r, k, f.get(Register::X))
 }
 
-// The registers of a level, in the block's order.
-fn block_words(regs: &[u16], l: u16) -> BlockWords
-    requires { ⌜ length (now regs) ≡ registerWords ⌝ }
-    ensures { λ w. ⌜ ((s : State) → listOf w ≡ blockWords (withRegs s (now (regs .entry))) l blockOrder) ⌝ }
-{
-    let f = file_at(regs, l % LEVELS);
-    BlockWords {
-        p: f.get(Register::P),
-        x: f.get(Register::X),
-        t: f.get(Register::T),
-        a: f.get(Register::A),
-        d: f.get(Register::D),
-        l: f.get(Register::L),
-        sts: f.get(Register::Sts),
-        b: f.get(Register::B),
-    }
-}
-
 // What P takes of a block's word: P of the running level is left.
 fn loaded_p(f: File, own: bool, w: u16) -> u16
     ensures { λ v. ⌜ v ≡ cond own (reg f P) w ⌝ }
@@ -79,22 +60,16 @@ fn loaded_p(f: File, own: bool, w: u16) -> u16
     w
 }
 
-// A level's file with a block's words in its registers; STS keeps bits 7-0 only.
-fn with_block(f: File, own: bool, w: BlockWords) -> File
+// A level's file with a block's words, which are those of all eight registers; STS keeps bits 7-0 only.
+fn with_block(f: File, own: bool, w: File) -> File
     ensures { λ g. ⌜ g ≡ withBlock own f blockOrder (listOf w) ⌝ }
 {
-    f.with(Register::P, loaded_p(f, own, w.p))
-        .with(Register::X, w.x)
-        .with(Register::T, w.t)
-        .with(Register::A, w.a)
-        .with(Register::D, w.d)
-        .with(Register::L, w.l)
-        .with(Register::Sts, w.sts % STATUS_RANGE)
-        .with(Register::B, w.b)
+    w.with(Register::P, loaded_p(f, own, w.get(Register::P)))
+        .with(Register::Sts, w.get(Register::Sts) % STATUS_RANGE)
 }
 
 // A block's words to the registers of a level.
-fn put_block(level: u16, regs: &mut [u16], l: u16, w: BlockWords)
+fn put_block(level: u16, regs: &mut [u16], l: u16, w: File)
     requires { ⌜ length (now regs) ≡ registerWords ⌝ }
     ensures { λ _. ⌜ ((s : State) → s .level ≡ level → withRegs s (now (regs .exit))
         ≡ putBlock (withRegs s (now (regs .entry))) l blockOrder (listOf w)) ⌝ }
@@ -137,7 +112,7 @@ pub fn block_stored(
     let b = tested(level, c, regs, mem.len(), tables, Kind::Write);
     let x = b.fault;
     if fault_of(x) == 0 {
-        store_block(mem, tables, b, block_words(regs, l));
+        store_block(mem, tables, b, file_at(regs, l % LEVELS));
         return Advanced {
             level: level,
             core: c,

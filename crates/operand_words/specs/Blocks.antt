@@ -2,16 +2,18 @@
 use Prim.Native.Nat.{ℕ}
 use mathlib.Core.Path.{_≡_}
 use mathlib.Core.Bool.{true}
-use mathlib.Core.List.{List, [], _∷_, _++_}
+use mathlib.Core.List.{List, [], _∷_, _++_, map}
 use Rattle.isa.specs.Address.{access, sum}
+use Rattle.isa.specs.Machine.{reg}
+use Rattle.isa.specs.Step.{blockOrder}
 use Rattle.isa.specs.declared.access.Access.{Access}
 use Rattle.isa.specs.declared.access.Kind.{Kind}
 use Rattle.isa.specs.declared.access.Translation.{Translation}
+use Rattle.isa.specs.declared.machine.File.{File}
 use Rattle.paging.specs.Within.{isStore}
 use Rattle.operand_words.specs.declared.block.Pair.{Pair}
 use Rattle.operand_words.specs.declared.block.Half.{Half}
 use Rattle.operand_words.specs.declared.block.Block.{Block}
-use Rattle.operand_words.specs.declared.block.BlockWords.{BlockWords}
 
 -- two and four accesses by the alternate rule, from an address on
 abbrev pub pairAt : Kind → ℕ → List Access
@@ -29,8 +31,9 @@ halfPlaces h = pairPlaces (h .first) ++ pairPlaces (h .second)
 abbrev pub blockPlaces : Block → List Translation
 blockPlaces b = halfPlaces (b .first) ++ halfPlaces (b .second)
 
-abbrev pub listOf : BlockWords → List ℕ
-listOf w = w .p ∷ w .x ∷ w .t ∷ w .a ∷ w .d ∷ w .l ∷ w .sts ∷ w .b ∷ []
+-- a file's words in the order of a block
+abbrev pub listOf : File → List ℕ
+listOf f = map (reg f) blockOrder
 
 -- places to store to
 abbrev pub AllStoring : List Translation → Type 0

@@ -1,4 +1,4 @@
-// The places of a block's accesses, and its words.
+// The places of a block's accesses.
 use isa::access::Translation;
 
 // Two, four and eight places in order, each with the first access that failed, NoAccess where all passed.
@@ -18,16 +18,4 @@ pub struct Block {
     pub first: Half,
     pub second: Half,
     pub fault: Translation,
-}
-
-// The words of a block in its order: P, X, T, A, D, L, STS, B.
-pub struct BlockWords {
-    pub p: u16,
-    pub x: u16,
-    pub t: u16,
-    pub a: u16,
-    pub d: u16,
-    pub l: u16,
-    pub sts: u16,
-    pub b: u16,
 }

@@ -1,4 +1,4 @@
-// A block's words read from its places, and stored to them.
+// A block's words, those of a level's file, read from its places and stored to them.
 ghost use Rattle.isa.specs.Machine.{tableWords};
 ghost use mathlib.Core.Path.{_≡_};
 ghost use mathlib.Core.Bool.{true};
@@ -10,10 +10,11 @@ ghost use Rattle.isa.specs.declared.access.Translation.{Translation as Translat
 ghost use Rattle.paging.specs.Within.{Within, AllWithin, isStore};
 ghost use Rattle.operand_words.specs.Blocks.{blockPlaces, halfPlaces, pairPlaces, listOf, AllStoring};
 use crate::block::Block;
-use crate::block::BlockWords;
 use crate::block::Half;
 use crate::block::Pair;
 use isa::access::Translation;
+use isa::machine::File;
+use isa::machine::Register;
 use paging::place::store_at;
 use paging::place::word_at;
 
@@ -38,10 +39,10 @@ fn read_pair(mem: &[u16], tables: &[u16], p: Pair) -> Two
 }
 
 // The words at the places.
-pub fn read_block(mem: &[u16], tables: &[u16], b: Block) -> BlockWords
+pub fn read_block(mem: &[u16], tables: &[u16], b: Block) -> File
     requires { ⌜ AllWithin (length (now mem)) (blockPlaces b) ⌝ }
     requires { ⌜ length (now tables) ≡ tableWords ⌝ }
-    ensures { λ w. ⌜ listOf w ≡ wordsAt (now (mem .entry)) (now (tables .entry)) (blockPlaces b) ⌝ }
+    ensures { λ f. ⌜ listOf f ≡ wordsAt (now (mem .entry)) (now (tables .entry)) (blockPlaces b) ⌝ }
 {
     let h = b.first;
     let g = b.second;
@@ -53,7 +54,7 @@ pub fn read_block(mem: &[u16], tables: &[u16], b: Block) -> BlockWords
     let ta = read_pair(mem, tables, q);
     let dl = read_pair(mem, tables, s);
     let sb = read_pair(mem, tables, v);
-    BlockWords {
+    File {
         p: px.a,
         x: px.b,
         t: ta.a,
@@ -104,14 +105,30 @@ fn store_half(mem: &mut [u16], tables: &mut [u16], h: Half, a: u16, b: u16, c: u
 }
 
 // The words are stored at the places.
-pub fn store_block(mem: &mut [u16], tables: &mut [u16], b: Block, w: BlockWords)
+pub fn store_block(mem: &mut [u16], tables: &mut [u16], b: Block, f: File)
     requires { ⌜ AllWithin (length (now mem)) (blockPlaces b) × AllStoring (blockPlaces b) ⌝ }
     requires { ⌜ length (now tables) ≡ tableWords ⌝ }
     ensures { λ _. ⌜ lent (now (mem .exit)) (now (tables .exit))
-        ≡ storeAll (now (mem .entry)) (now (tables .entry)) (blockPlaces b) (listOf w) ⌝ }
+        ≡ storeAll (now (mem .entry)) (now (tables .entry)) (blockPlaces b) (listOf f) ⌝ }
 {
     let h = b.first;
     let g = b.second;
-    store_half(mem, tables, h, w.p, w.x, w.t, w.a);
-    store_half(mem, tables, g, w.d, w.l, w.sts, w.b);
+    store_half(
+        mem,
+        tables,
+        h,
+        f.get(Register::P),
+        f.get(Register::X),
+        f.get(Register::T),
+        f.get(Register::A),
+    );
+    store_half(
+        mem,
+        tables,
+        g,
+        f.get(Register::D),
+        f.get(Register::L),
+        f.get(Register::Sts),
+        f.get(Register::B),
+    );
 }

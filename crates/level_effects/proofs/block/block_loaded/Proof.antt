@@ -8,6 +8,13 @@ use borrow.Author.Needs.{needs}
 use Rattle.level_effects.proofs.block.block_loaded.Statement.{statement}
 use Rattle.level_effects.proofs.block.block_loaded.Tie as tie
 
+-- places: the block tested, before its fault is asked for; and before that the function's start
+abbrev asked : tie.After-fault-of → tie.After-tested
+asked c = let lent = c .before .before .before in lent .before .before
+
+abbrev started : tie.After-tested → tie.Start
+started c = let entered = c .before .before .before in entered .before .before .before
+
 tested-requires : tie.Need-tested-requires
 tested-requires c κs = search needs
 
@@ -25,11 +32,9 @@ reloaded-requires : tie.Need-reloaded-requires
 reloaded-requires c κs =
     let put = c .before .before .before in
     let judged = put .before .before .before .before in
-    let lent = judged .before .before .before in
-    let asked = lent .before .before .before in
-    let entered = asked .before .before .before in
-    let start = entered .before .before .before in
-    (start .pre .0, put .put-block .kept .1 .0 ∙ asked .tested .kept .1 .1 .0 ∙ start .pre .1 .0)
+    let test = asked (judged .before) in
+    let start = started test in
+    (start .pre .0, put .put-block .kept .1 .0 ∙ test .tested .kept .1 .1 .0 ∙ start .pre .1 .0)
 
 same-length : tie.Need-same-length
 same-length c = search needs
@@ -42,15 +47,14 @@ returns : tie.Need-returns
 returns c =
     let put = c .before .before .before .before in
     let judged = put .before .before .before .before in
-    let lent = judged .before .before .before in
-    let asked = lent .before .before .before in
-    let entered = asked .before .before .before in
-    let a = entered .before .before .before .args in
+    let test = asked (judged .before) in
+    let a = started test .args in
     let f = judged .before .fault-of .ensures in (
       (refl, refl),
-      λ p q. block-from-memory _ _ Read _ _ _ (asked .tested .ensures) p q f (judged .if1 .taken) _
+      λ p q. block-from-memory _ _ Read _ _ _ (test .tested .ensures) p q f (judged .if1 .taken) _
           (put .before .read-block .ensures)
-          (c .reloaded .ensures (a .regs .now) p ∙ put .put-block .ensures (pack (a .level) (a .c) (a .regs .now) p) refl),
+          (c .reloaded .ensures (a .regs .now) p
+          ∙ put .put-block .ensures (pack (a .level) (a .c) (a .regs .now) p) refl),
     )
 
 block-failed-requires : tie.Need-block-failed-requires
@@ -66,11 +70,10 @@ same-length-4 c = search needs
 returns-2 : tie.Need-returns-2
 returns-2 c =
     let judged = c .before in
-    let lent = judged .before .before .before in
-    let asked = lent .before .before .before in
+    let test = asked (judged .before) .tested .ensures in
     let f = judged .before .fault-of .ensures in
     let e = c .block-failed .ensures in
-    (left-at e, λ p q. not-moved _ _ Read _ _ _ (asked .tested .ensures) p q f (judged .if1 .left) _ e .1)
+    (left-at e, λ p q. not-moved _ _ Read _ _ _ test p q f (judged .if1 .left) _ e .1)
 
 pub block-loaded-spec : {M : Type 1} → statement M
 block-loaded-spec =

@@ -1,12 +1,18 @@
 -- The words go to memory when all accesses passed; else the fault is the running level's.
 -- Assumes nothing.
 use mathlib.Core.Path.{refl, _∙_}
-use Rattle.isa.specs.Machine.{pack}
 use Rattle.isa.specs.declared.access.Kind.the-variants.{Write}
 use Rattle.level_effects.proofs.Laws.{left-at, block-storing, block-to-memory, not-moved}
 use borrow.Author.Needs.{needs}
 use Rattle.level_effects.proofs.block.block_stored.Statement.{statement}
 use Rattle.level_effects.proofs.block.block_stored.Tie as tie
+
+-- places: the block tested, before its fault is asked for; and before that the function's start
+abbrev asked : tie.After-fault-of → tie.After-tested
+asked c = let lent = c .before .before .before in lent .before .before
+
+abbrev started : tie.After-tested → tie.Start
+started c = let entered = c .before .before .before in entered .before .before .before
 
 tested-requires : tie.Need-tested-requires
 tested-requires c κs = search needs
@@ -14,19 +20,16 @@ tested-requires c κs = search needs
 fault-of-requires : tie.Need-fault-of-requires
 fault-of-requires c κs = search needs
 
-block-words-requires : tie.Need-block-words-requires
-block-words-requires c κs = search needs
+file-at-requires : tie.Need-file-at-requires
+file-at-requires c κs = search needs
 
 -- all accesses passed: the places are to store to
 store-block-requires : tie.Need-store-block-requires
 store-block-requires c κs =
     let judged = c .before .before .before .before in
-    let lent = judged .before .before .before in
-    let asked = lent .before .before .before in
-    let entered = asked .before .before .before in
-    let start = entered .before .before .before in
-    let passed = block-storing _ (asked .tested .ensures) (judged .before .fault-of .ensures) (judged .if1 .taken) in
-    (passed, asked .tested .kept .1 .1 .1 .1 .0 ∙ start .pre .1 .1)
+    let test = asked (judged .before) in
+    let passed = block-storing _ (test .tested .ensures) (judged .before .fault-of .ensures) (judged .if1 .taken) in
+    (passed, test .tested .kept .1 .1 .1 .1 .0 ∙ started test .pre .1 .1)
 
 same-length : tie.Need-same-length
 same-length c = search needs
@@ -41,16 +44,13 @@ same-length-3 c = search needs
 returns : tie.Need-returns
 returns c =
     let stored = c .before .before .before .before in
-    let words = stored .before in
-    let judged = words .before .before .before .before in
-    let lent = judged .before .before .before in
-    let asked = lent .before .before .before in
-    let entered = asked .before .before .before in
-    let a = entered .before .before .before .args in
+    let read = stored .before in
+    let judged = read .before .before .before .before in
+    let test = asked (judged .before) .tested .ensures in
     let f = judged .before .fault-of .ensures in (
       (refl, refl),
-      λ p q. block-to-memory _ _ Write _ _ _ (asked .tested .ensures) p q f (judged .if1 .taken) _
-          (words .block-words .ensures (pack (a .level) (a .c) (a .regs .now) p)) (stored .store-block .ensures),
+      λ p q. block-to-memory _ _ Write _ _ _ test p q f (judged .if1 .taken) _ (read .file-at .ensures)
+          (stored .store-block .ensures),
     )
 
 block-failed-requires : tie.Need-block-failed-requires
@@ -66,11 +66,10 @@ same-length-5 c = search needs
 returns-2 : tie.Need-returns-2
 returns-2 c =
     let judged = c .before in
-    let lent = judged .before .before .before in
-    let asked = lent .before .before .before in
+    let test = asked (judged .before) .tested .ensures in
     let f = judged .before .fault-of .ensures in
     let e = c .block-failed .ensures in
-    (left-at e, λ p q. not-moved _ _ Write _ _ _ (asked .tested .ensures) p q f (judged .if1 .left) _ e .0)
+    (left-at e, λ p q. not-moved _ _ Write _ _ _ test p q f (judged .if1 .left) _ e .0)
 
 pub block-stored-spec : {M : Type 1} → statement M
 block-stored-spec =
@@ -78,7 +77,7 @@ block-stored-spec =
     (tie.spec
     tested-requires
     fault-of-requires
-    block-words-requires
+    file-at-requires
     store-block-requires
     same-length
     same-length-2
