@@ -14,7 +14,7 @@ use isa::answer::Target;
 use isa::machine::State;
 use isa::number::answer_number;
 use isa::number::reason_number;
-use operations::runs::Ran;
+use operations::runs::RunResult;
 
 // An answer that tells no more, and the state that is left.
 fn answered(a: Answer, after: State) -> Told {
@@ -41,7 +41,7 @@ fn step(s: State, mem: &mut [u16], tables: &mut [u16]) -> Told {
     }
 }
 
-fn ran(r: Ran) -> Told {
+fn ran(r: RunResult) -> Told {
     let after = r.state;
     let a = r.answer;
     match a {

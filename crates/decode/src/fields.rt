@@ -1,13 +1,13 @@
 // The fields of an instruction word.
 ghost use mathlib.Core.Path.{_≡_};
 ghost use Rattle.isa.specs.Decode.{modeOf, registerOf, destinationOf, sourceOf, fourOf, cldOf, cm1Of};
-ghost use Rattle.isa.specs.Decode.{conditionOf, argumentOf, targetOf, kindOf, bitOpOf};
+ghost use Rattle.isa.specs.Decode.{conditionOf, argumentOf, shiftableOf, kindOf, bitOpOf};
 use isa::instruction::Argument;
 use isa::instruction::BitOp;
 use isa::instruction::Condition;
 use isa::instruction::Mode;
 use isa::instruction::ShiftKind;
-use isa::instruction::ShiftTarget;
+use isa::instruction::Shiftable;
 use isa::machine::Register;
 
 // The address mode, bits 10-8.
@@ -106,14 +106,14 @@ pub fn argument_of(w: u16) -> Argument
 }
 
 // The register of a shift, bits 8-7.
-pub fn target_of(w: u16) -> ShiftTarget
-    ensures { λ r. ⌜ r ≡ targetOf w ⌝ }
+pub fn shiftable_of(w: u16) -> Shiftable
+    ensures { λ r. ⌜ r ≡ shiftableOf w ⌝ }
 {
     match w / 128 % 4 {
-        0 => ShiftTarget::Sht,
-        1 => ShiftTarget::Shd,
-        2 => ShiftTarget::Sha,
-        _ => ShiftTarget::Sad,
+        0 => Shiftable::Sht,
+        1 => Shiftable::Shd,
+        2 => Shiftable::Sha,
+        _ => Shiftable::Sad,
     }
 }
 

@@ -5,7 +5,7 @@ ghost use Rattle.isa.specs.declared.instruction.User.the-variants.{Bit, Multipl
 ghost use Rattle.isa.specs.declared.instruction.Instruction.the-variants.{Unprivileged, Monitor};
 ghost use Rattle.isa.specs.Decode.{memory, skip, logic, adding, shiftOf};
 ghost use Rattle.isa.specs.Decode.{conditionOf, displacementOf, sourceOf, destinationOf, argumentOf};
-ghost use Rattle.isa.specs.Decode.{bitOpOf, fourOf, targetOf, kindOf, countOf};
+ghost use Rattle.isa.specs.Decode.{bitOpOf, fourOf, shiftableOf, kindOf, countOf};
 use crate::fields::argument_of;
 use crate::fields::bit_op_of;
 use crate::fields::cld_of;
@@ -15,8 +15,8 @@ use crate::fields::destination_of;
 use crate::fields::four_of;
 use crate::fields::kind_of;
 use crate::fields::mode_of;
+use crate::fields::shiftable_of;
 use crate::fields::source_of;
-use crate::fields::target_of;
 use isa::instruction::CarryIn;
 use isa::instruction::Instruction;
 use isa::instruction::LogicOp;
@@ -81,9 +81,13 @@ pub fn divide(w: u16) -> Instruction
 
 // A shift, by its register, kind and count.
 fn shift(w: u16) -> Instruction
-    ensures { λ r. ⌜ r ≡ Unprivileged (Shift (targetOf w) (kindOf w) (countOf w)) ⌝ }
+    ensures { λ r. ⌜ r ≡ Unprivileged (Shift (shiftableOf w) (kindOf w) (countOf w)) ⌝ }
 {
-    Instruction::Unprivileged(User::Shift(target_of(w), kind_of(w), arithmetic::signed::count(w)))
+    Instruction::Unprivileged(User::Shift(
+        shiftable_of(w),
+        kind_of(w),
+        arithmetic::signed::count(w),
+    ))
 }
 
 // A shift word with bit 6 set is illegal.

@@ -9,7 +9,7 @@ use lib.IntN.{ℤ}
 use Rattle.isa.specs.Machine.{reg, next}
 use Rattle.isa.specs.Address.{addressRule, access, firstAddress, firstRule, effectiveAddress, indirectAccess}
 use Rattle.isa.specs.Instructions.{storing}
-use Rattle.isa.specs.declared.access.Kind.the-variants.{Indirect}
+use Rattle.isa.specs.declared.access.AccessKind.the-variants.{Indirect}
 use Rattle.isa.specs.declared.machine.File.{File}
 use Rattle.isa.specs.declared.machine.Register.the-variants.{P}
 use Rattle.isa.specs.declared.instruction.Mode.{Mode}

@@ -15,8 +15,8 @@ use Rattle.isa.specs.Pages.{judged, inWindow, translate, marked, faultOf, Teste
 use Rattle.isa.specs.Pages.{lent, storeAll}
 use Rattle.isa.specs.Step.{part, failed, finished}
 use Rattle.isa.specs.declared.access.Access.{Access}
-use Rattle.isa.specs.declared.access.Kind.{Kind}
-use Rattle.isa.specs.declared.access.Kind.the-variants.{Read}
+use Rattle.isa.specs.declared.access.AccessKind.{AccessKind}
+use Rattle.isa.specs.declared.access.AccessKind.the-variants.{Read}
 use Rattle.isa.specs.declared.access.Rights.{Rights}
 use Rattle.isa.specs.declared.access.Translation.{Translation}
 use Rattle.isa.specs.declared.access.Translation.the-variants.{NoAccess, Load, Store, LoadTable, StoreTable}
@@ -31,14 +31,14 @@ use Rattle.isa.specs.declared.machine.Register.the-variants.{D, A, T}
 use Rattle.isa.proofs.Tests.{either}
 use Rattle.paging.specs.Outcome.{Outcome}
 use Rattle.paging.proofs.Outcomes.{Found, done, found-within, found-passed, found-failed, passes-zero, fails-other}
-use Rattle.operand_words.specs.Accesses.{severalWords, placesOf, threePlaces}
-use Rattle.operand_words.specs.declared.outcome.Places.{Places}
-use Rattle.operand_words.specs.declared.outcome.Places.the-variants.{Two, Three, Fault}
-use Rattle.operand_words.proofs.OperandLaws.{padded}
+use Rattle.memory_words.specs.Accesses.{severalWords, placesOf, threePlaces}
+use Rattle.memory_words.specs.declared.outcome.Places.{Places}
+use Rattle.memory_words.specs.declared.outcome.Places.the-variants.{Two, Three, Fault}
+use Rattle.memory_words.proofs.OperandLaws.{padded}
 use Rattle.exec_address.specs.Requests.{requestOf, completionOf, changeOf, wordsLoaded, wordsStored, threeStored}
 use Rattle.exec_address.specs.declared.request.Request.{Request}
 use Rattle.exec_address.specs.declared.request.Request.the-variants.{Several}
-use Rattle.operand_words.specs.declared.operand.Operand.{Operand}
+use Rattle.memory_words.specs.declared.location.Location.{Location}
 use Rattle.event.specs.Events.{eventPart, permitted, endedPart}
 use Rattle.event.specs.declared.Ending.{Ending}
 use Rattle.event.specs.declared.Event.the-variants.{Fine, Failed}
@@ -115,7 +115,7 @@ loads-all : (xs : List Access) → AllRead xs → (t : List ℕ) (words : ℕ) (
     → AllLoadOnly (testAll t words r xs .places)
 loads-all [] h t words r = tt
 loads-all (x ∷ xs) h t words r =
-    let read = subst (λ (k : Kind). LoadOnly (translate t words r (access k (x .alternate) (x .address)))) (sym (h .0))
+    let read = subst (λ (k : AccessKind). LoadOnly (translate t words r (access k (x .alternate) (x .address)))) (sym (h .0))
     (read-loads t words r (x .alternate) (x .address)) in
     either (λ (i : Tested). AllLoadOnly (i .places)) (passes (translate t words r x))
     (read, loads-all xs (h .1) (marked t words r x) words r) tt
@@ -144,7 +144,7 @@ module _ (c : Core) (m : List ℕ) (k : List ℕ → Completed) (r : Tested) {u 
   tested-failed p = rw (e, q) (simp (ap passes (sym q) ∙ p))
 
 -- what was found of a request in the file f
-module _ (f : File) (m : List ℕ) {t : List ℕ} (q : Request) (x : Operand) {ps : List Translation} {z : Translation}
+module _ (f : File) (m : List ℕ) {t : List ℕ} (q : Request) (x : Location) {ps : List Translation} {z : Translation}
     {u : List ℕ} (o : Outcome t (length m) (x .rights) [] (accessesOf q (x .alternate) (x .address)) ps z u) where
   -- its completion, by the words at the places
   abbrev by : Completed
@@ -193,11 +193,11 @@ module _ {t : List ℕ} {words : ℕ} {r : Rights} {x : Access} {y : Translation
   failed-test = fails-other y (f .fault) e
 
 -- what was found of an access of the kind k to the operand x: its place y, the number n of its fault, the tables v left
-abbrev pub FoundAt : Kind → Operand → List ℕ → List ℕ → Translation → ℕ → List ℕ → Type 0
+abbrev pub FoundAt : AccessKind → Location → List ℕ → List ℕ → Translation → ℕ → List ℕ → Type 0
 FoundAt k x m t y n v = Found t (length m) (x .rights) (access k (x .alternate) (x .address)) y n v
 
 -- the first access of a request failed
-pub access-fails : (f : File) (m : List ℕ) {t : List ℕ} (q : Request) (x : Operand) {y : Access} {ys : List Access}
+pub access-fails : (f : File) (m : List ℕ) {t : List ℕ} (q : Request) (x : Location) {y : Access} {ys : List Access}
     {z : Translation} {n : ℕ} {v : List ℕ} → y ∷ ys ≡ accessesOf q (x .alternate) (x .address)
     → Found t (length m) (x .rights) y z n v → (n ≡ 0 → ⊥) → {e : Ending} → e ≡ record { file = f; event = Failed z }
     → Served f q x m t e m v
@@ -248,7 +248,7 @@ module _ (k : Change) (x : Exchanged) {n : ℕ} {e : Ending} (q : n ≡ faultOf 
 
 -- the same accesses, and the same fault
 pub renamed :
-    {t : List ℕ} {words : ℕ} {r : Rights} {k j : Kind} {alternate : Bool} {a : ℕ} (n : ℕ) {ps : List Translation}
+    {t : List ℕ} {words : ℕ} {r : Rights} {k j : AccessKind} {alternate : Bool} {a : ℕ} (n : ℕ) {ps : List Translation}
     {y z : Translation} {u : List ℕ}
     → k ≡ j → y ≡ z → Outcome t words r [] (severalWords k alternate a n) ps z u
     → Outcome t words r [] (severalWords j alternate a n) ps y u

@@ -26,7 +26,7 @@ use Rattle.isa.specs.Pages.{loweredPcr}
 use Rattle.isa.specs.Step.{Part, finished, operands, operandsTested, indirectTested, userStage, failed, afterFetch}
 use Rattle.isa.specs.Step.{privileged}
 use Rattle.isa.specs.declared.access.Access.{Access}
-use Rattle.isa.specs.declared.access.Kind.the-variants.{Fetch, Indirect}
+use Rattle.isa.specs.declared.access.AccessKind.the-variants.{Fetch, Indirect}
 use Rattle.isa.specs.declared.access.Rights.{Rights}
 use Rattle.isa.specs.declared.access.Translation.{Translation}
 use Rattle.isa.specs.declared.access.Translation.the-variants.{NoAccess, Load, Store, LoadTable, StoreTable}
@@ -54,14 +54,14 @@ use Rattle.paging.proofs.Outcomes.{Found, found-passed, found-failed, found-wit
 use Rattle.paging.proofs.Levels.{same-ring}
 use Rattle.paging.specs.Levels.{levelRights}
 use Rattle.paging.specs.Outcome.{Outcome}
-use Rattle.operand_words.specs.declared.operand.Operand.{Operand}
+use Rattle.memory_words.specs.declared.location.Location.{Location}
 use Rattle.event.specs.Events.{eventPart, endingOf, permitted, endedPart}
 use Rattle.event.specs.declared.Ending.{Ending}
 use Rattle.event.specs.declared.Event.{Event}
 use Rattle.event.specs.declared.Event.the-variants.{Fine, Error, Failed as Faulted}
 use Rattle.exec_memory.specs.Served.{Executing, accessesOf, accessedBy, requested, Served}
 use Rattle.exec_memory.proofs.RequestLaws.{request-serves}
-use Rattle.exec_memory.specs.Stages.{ExecutingAt, ByIndirect, Addressed, UserStage, byteOperand, addressed}
+use Rattle.exec_memory.specs.Stages.{ExecutingAt, ByIndirect, Addressed, UserStage, byteLocation, addressed}
 use Rattle.exec_memory.specs.Stages.{afterIndirectWord, coreOf, ringFrom, ringAfter}
 use Rattle.exec_memory.specs.declared.address.Effective.{Effective}
 use Rattle.exec_memory.specs.declared.address.Effective.the-variants.{At, Failed}
@@ -207,7 +207,7 @@ module _ (g : File) (m t : List ℕ) (a : ℕ) (r : Rights) (md : Mode) (d : ℤ
       ∙ direct-stage c m t o md d h
 
 -- LBYT and SBYT, whose address P has no part in
-module _ (g : File) (m t : List ℕ) (at : ℕ) (r : Rights) {x : Operand} (p : x ≡ byteOperand r g) (z : Ending)
+module _ (g : File) (m t : List ℕ) (at : ℕ) (r : Rights) {x : Location} (p : x ≡ byteLocation r g) (z : Ending)
     (m′ t′ : List ℕ) {u : User} where
   byte-served : (v : User) (q : Request) → u ≡ v
       → ((f : File) → accessesOf q true (byteAddress f) ≡ request v f 0)
@@ -215,7 +215,7 @@ module _ (g : File) (m t : List ℕ) (at : ℕ) (r : Rights) {x : Operand} (p : 
       → ((f : File) → indirectRequest v f ≡ []) → Served g q x m t z m′ t′ → UserStage g at r u m t z m′ t′
   byte-served v q e i h n f l c s =
       let b = c .file in
-      subst (λ (y : Operand). Served g q y m t z m′ t′) p f l c (s .executing)
+      subst (λ (y : Location). Served g q y m t z m′ t′) p f l c (s .executing)
       ∙ ap (λ (y : File). requested c m t q true (byteAddress y)) (sym (s .executing .file))
       ∙ requested-is c m t v 0 q true (byteAddress b) (i b) (h b)
       ∙ no-indirect c m t v (n b)

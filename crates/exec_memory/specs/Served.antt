@@ -9,8 +9,8 @@ use Rattle.isa.specs.Instructions.{Completed, oneWord, readAndWrite}
 use Rattle.isa.specs.Pages.{Tested, testAll, passes, wordsAt, rightsOf}
 use Rattle.isa.specs.Step.{Part, failed, finished}
 use Rattle.isa.specs.declared.access.Access.{Access}
-use Rattle.isa.specs.declared.access.Kind.{Kind}
-use Rattle.isa.specs.declared.access.Kind.the-variants as kinds
+use Rattle.isa.specs.declared.access.AccessKind.{AccessKind}
+use Rattle.isa.specs.declared.access.AccessKind.the-variants as kinds
 use Rattle.isa.specs.declared.access.Rights.{Rights}
 use Rattle.isa.specs.declared.machine.Core.{Core}
 use Rattle.isa.specs.declared.machine.File.{File}
@@ -18,8 +18,8 @@ use Rattle.exec_address.specs.Requests.{completionOf, changeOf}
 use Rattle.exec_address.specs.declared.request.Request.{Request}
 use Rattle.exec_address.specs.declared.request.Request.the-variants.{Jump, Link, Read, Write, Several, Update}
 use Rattle.exec_address.specs.declared.request.Change.{Change}
-use Rattle.operand_words.specs.Accesses.{severalWords}
-use Rattle.operand_words.specs.declared.operand.Operand.{Operand}
+use Rattle.memory_words.specs.Accesses.{severalWords}
+use Rattle.memory_words.specs.declared.location.Location.{Location}
 use Rattle.event.specs.Events.{endedPart}
 use Rattle.event.specs.declared.Ending.{Ending}
 use Rattle.event.specs.declared.Event.the-variants.{Fine, Failed}
@@ -31,7 +31,7 @@ pub record Executing (c : Core) (f : File) (r : Rights) : Type 0 where
   pub rights : rightsOf c ≡ r
 
 -- two or three words are written, or read
-abbrev pub severalKind : Bool → Kind
+abbrev pub severalKind : Bool → AccessKind
 severalKind store = cond store kinds.Write kinds.Read
 
 -- the accesses that a request stands for at the address a, by the alternate rule or not
@@ -55,7 +55,7 @@ requested c m t q alternate a =
     accessedBy c m (completionOf q (next (c .file)) a) (testAll t (length m) (rightsOf c) (accessesOf q alternate a))
 
 -- the ending e is what is answered for a request in every core that executes it
-abbrev pub Served : File → Request → Operand → List ℕ → List ℕ → Ending → List ℕ → List ℕ → Type 0
+abbrev pub Served : File → Request → Location → List ℕ → List ℕ → Ending → List ℕ → List ℕ → Type 0
 Served f q x m t e m' t' =
     (l : ℕ) (c : Core) → Executing c f (x .rights)
     → endedPart l c e m' t' ≡ requested c m t q (x .alternate) (x .address)

@@ -10,7 +10,7 @@ use Rattle.isa.specs.Machine.{reg, next, nextCore}
 use Rattle.isa.specs.Address.{access, firstRule, addressRule, byteAddress}
 use Rattle.isa.specs.Pages.{Tested, testAll, passes, wordsAt, rightsOf}
 use Rattle.isa.specs.Step.{Part, failed, userStage}
-use Rattle.isa.specs.declared.access.Kind.the-variants.{Indirect}
+use Rattle.isa.specs.declared.access.AccessKind.the-variants.{Indirect}
 use Rattle.isa.specs.declared.access.Rights.{Rights}
 use Rattle.isa.specs.declared.access.Translation.{Translation}
 use Rattle.isa.specs.declared.access.Translation.the-variants.{NoAccess, Load, Store, LoadTable, StoreTable}
@@ -25,7 +25,7 @@ use Rattle.isa.specs.declared.machine.File.{File}
 use Rattle.isa.specs.declared.machine.Register.the-variants.{P}
 use Rattle.exec_address.specs.Addresses.{afterIndirect}
 use Rattle.exec_address.specs.Requests.{requestOf}
-use Rattle.operand_words.specs.declared.operand.Operand.{Operand}
+use Rattle.memory_words.specs.declared.location.Location.{Location}
 use Rattle.event.specs.Events.{endedPart}
 use Rattle.event.specs.declared.Ending.{Ending}
 use Rattle.exec_memory.specs.Served.{Executing, requested}
@@ -66,8 +66,8 @@ ByIndirect f r md a m t e t' =
 -- ---- instructions
 
 -- the word of LBYT and SBYT
-abbrev pub byteOperand : Rights → File → Operand
-byteOperand r g = record { rights = r; alternate = true; address = byteAddress g }
+abbrev pub byteLocation : Rights → File → Location
+byteLocation r g = record { rights = r; alternate = true; address = byteAddress g }
 
 -- the ending e is what a stage answers for an unprivileged instruction in every core that executes it
 abbrev pub UserStage : File → ℕ → Rights → User → List ℕ → List ℕ → Ending → List ℕ → List ℕ → Type 0

@@ -9,7 +9,7 @@ use exec_address::address::first_address;
 use exec_address::indirect::after_indirect;
 use exec_address::indirect::first_rule;
 use exec_address::indirect::has_indirect;
-use isa::access::Kind;
+use isa::access::AccessKind;
 use isa::access::Rights;
 use isa::access::Translation;
 use isa::instruction::Mode;
@@ -30,7 +30,7 @@ fn by_indirect(f: File, r: Rights, mem: &[u16], tables: &mut [u16], m: Mode, a: 
     requires { ⌜ length (now tables) ≡ tableWords ⌝ }
     ensures { λ e. ⌜ ByIndirect f r m a (now (mem .entry)) (now (tables .entry)) e (now (tables .exit)) ⌝ }
 {
-    let x = translate(tables, mem.len(), r, Kind::Indirect, first_rule(m), a);
+    let x = translate(tables, mem.len(), r, AccessKind::Indirect, first_rule(m), a);
     if fault_of(x) != 0 {
         return Effective::Failed(x);
     }

@@ -14,9 +14,9 @@ use event::fine;
 use exec_address::request::Request;
 use isa::machine::File;
 use isa::machine::Register;
-use operand_words::operand::Operand;
+use memory_words::location::Location;
 
-pub fn serve(f: File, mem: &mut [u16], tables: &mut [u16], x: Operand, q: Request) -> Ending
+pub fn serve(f: File, mem: &mut [u16], tables: &mut [u16], x: Location, q: Request) -> Ending
     requires { ⌜ (x .rights .normal < 4) × (x .rights .alternate < 4) ⌝ }
     requires { ⌜ length (now tables) ≡ tableWords ⌝ }
     ensures { λ e. ⌜ Served f q x (now (mem .entry)) (now (tables .entry)) e (now (mem .exit)) (now (tables .exit)) ⌝ }

@@ -11,22 +11,22 @@ use event::fine;
 use event::with_event;
 use exec_address::load::loaded_more;
 use exec_address::store::stored_more;
-use isa::access::Kind;
+use isa::access::AccessKind;
 use isa::machine::File;
-use operand_words::operand::Operand;
-use operand_words::outcome::fault_in;
-use operand_words::test::several;
-use operand_words::words::read_all;
-use operand_words::words::store_all;
+use memory_words::location::Location;
+use memory_words::outcome::fault_in;
+use memory_words::test::several;
+use memory_words::words::read_all;
+use memory_words::words::store_all;
 use paging::place::fault_of;
 
-fn kind_of(store: bool) -> Kind
+fn kind_of(store: bool) -> AccessKind
     ensures { λ k. ⌜ k ≡ severalKind store ⌝ }
 {
     if store {
-        return Kind::Write;
+        return AccessKind::Write;
     }
-    Kind::Read
+    AccessKind::Read
 }
 
 // The words are stored, or else read.
@@ -34,7 +34,7 @@ pub(crate) fn words(
     f: File,
     mem: &mut [u16],
     tables: &mut [u16],
-    x: Operand,
+    x: Location,
     store: bool,
     n: u16,
 ) -> Ending

@@ -11,36 +11,56 @@ use event::fine;
 use event::with_event;
 use exec_address::load::loaded;
 use exec_address::request::Reading;
-use isa::access::Kind;
+use isa::access::AccessKind;
 use isa::machine::File;
-use operand_words::operand::Operand;
+use memory_words::location::Location;
 use paging::place::fault_of;
 use paging::place::store_at;
 use paging::place::word_at;
 use paging::translation::translate;
 
-pub fn read_word(f: File, mem: &[u16], tables: &mut [u16], x: Operand, k: Reading) -> Ending
+pub fn read_word(f: File, mem: &[u16], tables: &mut [u16], x: Location, k: Reading) -> Ending
     requires { ⌜ (x .rights .normal < 4) × (x .rights .alternate < 4) ⌝ }
     requires { ⌜ length (now tables) ≡ tableWords ⌝ }
     ensures { λ e. ⌜ Served f (Read k) x (now (mem .entry)) (now (tables .entry)) e (now (mem .entry))
         (now (tables .exit)) ⌝ }
 {
     let r = x.rights;
-    let a = translate(tables, mem.len(), r, Kind::Read, x.alternate, x.address);
+    let a = translate(
+        tables,
+        mem.len(),
+        r,
+        AccessKind::Read,
+        x.alternate,
+        x.address,
+    );
     if fault_of(a) != 0 {
         return with_event(f, Event::Failed(a));
     }
     fine(loaded(k, f, word_at(mem, tables, a)))
 }
 
-pub(crate) fn write_word(f: File, mem: &mut [u16], tables: &mut [u16], x: Operand, w: u16) -> Ending
+pub(crate) fn write_word(
+    f: File,
+    mem: &mut [u16],
+    tables: &mut [u16],
+    x: Location,
+    w: u16,
+) -> Ending
     requires { ⌜ (x .rights .normal < 4) × (x .rights .alternate < 4) ⌝ }
     requires { ⌜ length (now tables) ≡ tableWords ⌝ }
     ensures { λ e. ⌜ Served f (Write w) x (now (mem .entry)) (now (tables .entry)) e (now (mem .exit))
         (now (tables .exit)) ⌝ }
 {
     let r = x.rights;
-    let a = translate(tables, mem.len(), r, Kind::Write, x.alternate, x.address);
+    let a = translate(
+        tables,
+        mem.len(),
+        r,
+        AccessKind::Write,
+        x.alternate,
+        x.address,
+    );
     if fault_of(a) != 0 {
         return with_event(f, Event::Failed(a));
     }

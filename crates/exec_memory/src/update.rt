@@ -13,10 +13,10 @@ use event::with_event;
 use exec_address::change::after_change;
 use exec_address::change::changed;
 use exec_address::request::Change;
-use isa::access::Kind;
+use isa::access::AccessKind;
 use isa::access::Translation;
 use isa::machine::File;
-use operand_words::operand::Operand;
+use memory_words::location::Location;
 use paging::place::fault_of;
 use paging::place::store_at;
 use paging::place::word_at;
@@ -29,21 +29,35 @@ pub struct Exchanged {
 }
 
 // Both accesses are tested, and the changed word is stored.
-fn exchange(f: File, mem: &mut [u16], tables: &mut [u16], x: Operand, k: Change) -> Exchanged
+fn exchange(f: File, mem: &mut [u16], tables: &mut [u16], x: Location, k: Change) -> Exchanged
     requires { ⌜ (x .rights .normal < 4) × (x .rights .alternate < 4) ⌝ }
     requires { ⌜ length (now tables) ≡ tableWords ⌝ }
     ensures { λ e. ⌜ Served f (Update k) x (now (mem .entry)) (now (tables .entry)) (afterExchange f k e)
         (now (mem .exit)) (now (tables .exit)) ⌝ }
 {
     let r = x.rights;
-    let from = translate(tables, mem.len(), r, Kind::Read, x.alternate, x.address);
+    let from = translate(
+        tables,
+        mem.len(),
+        r,
+        AccessKind::Read,
+        x.alternate,
+        x.address,
+    );
     if fault_of(from) != 0 {
         return Exchanged {
             word: 0,
             fault: from,
         };
     }
-    let to = translate(tables, mem.len(), r, Kind::Write, x.alternate, x.address);
+    let to = translate(
+        tables,
+        mem.len(),
+        r,
+        AccessKind::Write,
+        x.alternate,
+        x.address,
+    );
     if fault_of(to) != 0 {
         return Exchanged { word: 0, fault: to };
     }
@@ -55,7 +69,7 @@ fn exchange(f: File, mem: &mut [u16], tables: &mut [u16], x: Operand, k: Change)
     }
 }
 
-pub(crate) fn update(f: File, mem: &mut [u16], tables: &mut [u16], x: Operand, k: Change) -> Ending
+pub(crate) fn update(f: File, mem: &mut [u16], tables: &mut [u16], x: Location, k: Change) -> Ending
     requires { ⌜ (x .rights .normal < 4) × (x .rights .alternate < 4) ⌝ }
     requires { ⌜ length (now tables) ≡ tableWords ⌝ }
     ensures { λ e. ⌜ Served f (Update k) x (now (mem .entry)) (now (tables .entry)) e (now (mem .exit))
@@ -70,7 +84,7 @@ pub(crate) fn update(f: File, mem: &mut [u16], tables: &mut [u16], x: Operand, k
 }
 
 // SBYT, which is not served as MIN is: a function with one caller is compiled into it.
-pub fn put_byte(f: File, mem: &mut [u16], tables: &mut [u16], x: Operand) -> Ending
+pub fn put_byte(f: File, mem: &mut [u16], tables: &mut [u16], x: Location) -> Ending
     requires { ⌜ (x .rights .normal < 4) × (x .rights .alternate < 4) ⌝ }
     requires { ⌜ length (now tables) ≡ tableWords ⌝ }
     ensures { λ e. ⌜ Served f (Update PutByte) x (now (mem .entry)) (now (tables .entry)) e (now (mem .exit))

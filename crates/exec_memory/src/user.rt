@@ -4,7 +4,7 @@ ghost use mathlib.Core.Path.{_≡_};
 ghost use Prim.Native.Nat.{_<_};
 ghost use lib.ListN.{length};
 ghost use Rattle.isa.specs.declared.instruction.User.the-variants.{Memory};
-ghost use Rattle.exec_memory.specs.Stages.{UserStage, byteOperand};
+ghost use Rattle.exec_memory.specs.Stages.{UserStage, byteLocation};
 use crate::address::Effective;
 use crate::address::address_of;
 use crate::request::serve;
@@ -22,7 +22,7 @@ use isa::instruction::MemoryOp;
 use isa::instruction::Mode;
 use isa::instruction::User;
 use isa::machine::File;
-use operand_words::operand::Operand;
+use memory_words::location::Location;
 
 fn memory_stage(
     f: File,
@@ -42,7 +42,7 @@ fn memory_stage(
     let e = address_of(f, at, r, mem, tables, m, d);
     match e {
         Effective::At(alternate, a) => {
-            let x = Operand {
+            let x = Location {
                 rights: r,
                 alternate: alternate,
                 address: a,
@@ -54,10 +54,10 @@ fn memory_stage(
 }
 
 // The word of LBYT and SBYT.
-fn byte_operand(f: File, r: Rights) -> Operand
-    ensures { λ x. ⌜ x ≡ byteOperand r f ⌝ }
+fn byte_location(f: File, r: Rights) -> Location
+    ensures { λ x. ⌜ x ≡ byteLocation r f ⌝ }
 {
-    Operand {
+    Location {
         rights: r,
         alternate: true,
         address: byte_address(f),
@@ -81,10 +81,10 @@ pub fn user_stage(
         return memory_stage(f, at, r, mem, tables, o, m, d);
     }
     if let User::LoadByte = u {
-        return read_word(f, mem, tables, byte_operand(f, r), Reading::Byte);
+        return read_word(f, mem, tables, byte_location(f, r), Reading::Byte);
     }
     if let User::StoreByte = u {
-        return put_byte(f, mem, tables, byte_operand(f, r));
+        return put_byte(f, mem, tables, byte_location(f, r));
     }
     complete(u, f, at)
 }

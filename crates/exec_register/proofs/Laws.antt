@@ -19,8 +19,8 @@ use Rattle.isa.specs.declared.machine.Register.the-variants.{D, P, A}
 use Rattle.isa.specs.declared.instruction.Argument.the-variants.{ArgumentB, ArgumentA, ArgumentT, ArgumentX}
 use Rattle.isa.specs.declared.instruction.CarryIn.the-variants.{NoCarry, One, Previous}
 use Rattle.isa.specs.declared.instruction.ShiftKind.{ShiftKind}
-use Rattle.isa.specs.declared.instruction.ShiftTarget.{ShiftTarget}
-use Rattle.isa.specs.declared.instruction.ShiftTarget.the-variants.{Sht, Shd, Sha, Sad}
+use Rattle.isa.specs.declared.instruction.Shiftable.{Shiftable}
+use Rattle.isa.specs.declared.instruction.Shiftable.the-variants.{Sht, Shd, Sha, Sad}
 use Rattle.isa.specs.declared.instruction.User.{User}
 use Rattle.isa.specs.declared.instruction.User.the-variants.{Memory, Jump, Skip, Logic, RegisterAdd, NoOperation}
 use Rattle.isa.specs.declared.instruction.User.the-variants.{Shift, SetArgument, AddArgument, Bit, LoadByte}
@@ -33,7 +33,7 @@ use Rattle.exec_register.specs.Completion.{inRegisters, registerCompleti
 -- ---- shifts
 
 pub double-shift :
-    (f : File) (t : ShiftTarget) (k : ShiftKind) (n : ℤ) → isZero (shiftRegister t) ≡ true
+    (f : File) (t : Shiftable) (k : ShiftKind) (n : ℤ) → isZero (shiftRegister t) ≡ true
     → shiftDouble f k n ≡ shifted f t k n
 double-shift f Sht k n h = absurd (no-both h)
 double-shift f Shd k n h = absurd (no-both h)
@@ -41,7 +41,7 @@ double-shift f Sha k n h = absurd (no-both h)
 double-shift f Sad k n h = refl
 
 pub word-shift :
-    (f : File) (t : ShiftTarget) (k : ShiftKind) (n : ℤ) → isZero (shiftRegister t) ≡ false
+    (f : File) (t : Shiftable) (k : ShiftKind) (n : ℤ) → isZero (shiftRegister t) ≡ false
     → shiftIn f (shiftRegister t) k n ≡ shifted f t k n
 word-shift f Sht k n h = refl
 word-shift f Shd k n h = refl

@@ -11,8 +11,8 @@ use Rattle.isa.specs.Instructions.{mixed, registerProduct, divided}
 use Rattle.isa.specs.declared.machine.File.{File}
 use Rattle.isa.specs.declared.machine.Register.{Register}
 use Rattle.isa.specs.declared.machine.Register.the-variants.{Sts, D, A, T}
-use Rattle.isa.specs.declared.instruction.ShiftTarget.{ShiftTarget}
-use Rattle.isa.specs.declared.instruction.ShiftTarget.the-variants.{Sht, Shd, Sha, Sad}
+use Rattle.isa.specs.declared.instruction.Shiftable.{Shiftable}
+use Rattle.isa.specs.declared.instruction.Shiftable.the-variants.{Sht, Shd, Sha, Sad}
 use Rattle.isa.specs.declared.instruction.User.{User}
 use Rattle.isa.specs.declared.instruction.User.the-variants.{Memory, Jump, Skip, Logic, RegisterAdd, NoOperation}
 use Rattle.isa.specs.declared.instruction.User.the-variants.{Shift, SetArgument, AddArgument, Bit, LoadByte}
@@ -62,7 +62,7 @@ abbrev pub failing : File → Completed
 failing f = record { file = withFlag flagZ 1 f; stores = []; error = true }
 
 -- the register of a shift of one word; STS stands for A and D as one double word
-abbrev pub shiftRegister : ShiftTarget → Register
+abbrev pub shiftRegister : Shiftable → Register
 shiftRegister Sht = T
 shiftRegister Shd = D
 shiftRegister Sha = A

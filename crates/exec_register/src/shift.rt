@@ -7,7 +7,7 @@ use crate::operand;
 use isa::constant::FLAG_M;
 use isa::constant::WORD_RANGE;
 use isa::instruction::ShiftKind;
-use isa::instruction::ShiftTarget;
+use isa::instruction::Shiftable;
 use isa::machine::File;
 use isa::machine::Register;
 
@@ -39,19 +39,19 @@ fn shift_double(f: File, k: ShiftKind, n: i16) -> File
 }
 
 // The register of a shift of one word; STS stands for A and D.
-fn shift_register(t: ShiftTarget) -> Register
+fn shift_register(t: Shiftable) -> Register
     ensures { λ r. ⌜ r ≡ shiftRegister t ⌝ }
 {
     match t {
-        ShiftTarget::Sht => Register::T,
-        ShiftTarget::Shd => Register::D,
-        ShiftTarget::Sha => Register::A,
-        ShiftTarget::Sad => Register::Sts,
+        Shiftable::Sht => Register::T,
+        Shiftable::Shd => Register::D,
+        Shiftable::Sha => Register::A,
+        Shiftable::Sad => Register::Sts,
     }
 }
 
 // One place calls shift_in, so that it is compiled into it.
-pub fn shifted(f: File, t: ShiftTarget, k: ShiftKind, n: i16) -> File
+pub fn shifted(f: File, t: Shiftable, k: ShiftKind, n: i16) -> File
     ensures { λ g. ⌜ g ≡ shifted f t k n ⌝ }
 {
     let r = shift_register(t);

@@ -12,7 +12,7 @@ use Rattle.isa.specs.Pages.{inWindow, translate, marked, wordAt, rightsOf, pass
 use Rattle.isa.specs.Machine.{interruptPrivileged}
 use Rattle.isa.specs.Step.{Part, executed, afterFetch, fetchOf, fetched, failed, trapped, privileged, systemStage}
 use Rattle.isa.specs.Step.{instructionStage, stepIn}
-use Rattle.isa.specs.declared.access.Kind.the-variants.{Fetch}
+use Rattle.isa.specs.declared.access.AccessKind.the-variants.{Fetch}
 use Rattle.isa.specs.declared.access.Rights.{Rights}
 use Rattle.isa.specs.declared.access.Translation.{Translation}
 use Rattle.isa.specs.declared.instruction.Instruction.{Instruction}

@@ -9,7 +9,7 @@ use crate::instruction::executed_word;
 use event::Event;
 use event::permitted;
 use exec_memory::fetch::ring_after;
-use isa::access::Kind;
+use isa::access::AccessKind;
 use isa::access::Rights;
 use isa::machine::File;
 use isa::machine::Register;
@@ -40,7 +40,7 @@ pub fn step_in(f: File, r: Rights, mem: &mut [u16], tables: &mut [u16]) -> Level
 {
     let at = f.get(Register::P);
     let ring = ring_at(tables, r, at);
-    let x = translate(tables, mem.len(), r, Kind::Fetch, false, at);
+    let x = translate(tables, mem.len(), r, AccessKind::Fetch, false, at);
     if fault_of(x) == 0 {
         let w = word_at(mem, tables, x);
         let q = ring_after(r, ring, x);

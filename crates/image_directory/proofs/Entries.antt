@@ -10,7 +10,7 @@ use lib.ListN.{length, getD, drop}
 use lib.Seq.{getD-drop, drop-drop}
 use lib.Dec.{ltb, leb}
 use borrow.Author.Tests.{lt-ltb, le-ltb, le-leb, lt-leb, ltb-true, leb-true}
-use Rattle.isa.specs.Images.{Entry, twoWords, entryOf, entriesOf, entryCount, contentsFit, namedWords}
+use Rattle.isa.specs.Images.{ImageEntry, twoWords, entryOf, entriesOf, entryCount, contentsFit, namedWords}
 use Rattle.isa.proofs.Tests.{and-left, and-right}
 use Rattle.image_directory.specs.Entries.{entryAt, restOf}
 
@@ -19,7 +19,7 @@ use Rattle.image_directory.specs.Entries.{entryAt, restOf}
 -- five words are an entry
 pub entry-read : (i : List ℕ) (k s n : ℕ) → s ≡ twoWords (getD i (1 + k * 5 + 1) 0) (getD i (1 + k * 5 + 2) 0)
     → n ≡ twoWords (getD i (1 + k * 5 + 3) 0) (getD i (1 + k * 5 + 4) 0)
-    → _≡_ {A = Entry} (record { kind = getD i (1 + k * 5) 0; start = s; count = n }) (entryAt k i)
+    → _≡_ {A = ImageEntry} (record { kind = getD i (1 + k * 5) 0; start = s; count = n }) (entryAt k i)
 unfolding entryAt
 entry-read i k s n p q = λ j. record { kind = z j; start = (p ∙ a) j; count = (q ∙ b) j }
   where
@@ -102,10 +102,10 @@ pub named-next : (k n : ℕ) (i : List ℕ) → k < n
     → namedWords (restOf k n i) ≡ entryAt k i .count + namedWords (restOf (k + 1) n i)
 named-next k n i h = ap namedWords (rest-next k n i h)
 
-pub named-less : (k n c : ℕ) (i : List ℕ) (e : Entry) → k < n → e ≡ entryAt k i → c ≡ e .count
+pub named-less : (k n c : ℕ) (i : List ℕ) (e : ImageEntry) → k < n → e ≡ entryAt k i → c ≡ e .count
     → namedWords (restOf k n i) ≡ c + namedWords (restOf (k + 1) n i)
 named-less k n c i e h q p =
-    named-next k n i h ∙ ap (λ (x : ℕ). x + namedWords (restOf (k + 1) n i)) (sym (p ∙ ap (λ (x : Entry). x .count) q))
+    named-next k n i h ∙ ap (λ (x : ℕ). x + namedWords (restOf (k + 1) n i)) (sym (p ∙ ap (λ (x : ImageEntry). x .count) q))
 
 pub named-end : (k n : ℕ) (i : List ℕ) → n ≤ k → namedWords (restOf k n i) ≡ 0
 named-end k n i h = ap namedWords (rest-end k n i h)

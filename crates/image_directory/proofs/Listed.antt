@@ -9,7 +9,7 @@ use native.Mathlib.Numerals.{add-one}
 use lib.ListN.{length, drop, length-drop}
 use lib.Dec.{ltb}
 use borrow.Author.Tests.{lt-ltb, le-ltb, eq-eqb, ne-eqb}
-use Rattle.isa.specs.Images.{Entry, entriesOf, knownKind, sizeOf, meets, meetsAny, entriesAnswer, namedWords}
+use Rattle.isa.specs.Images.{ImageEntry, entriesOf, knownKind, sizeOf, meets, meetsAny, entriesAnswer, namedWords}
 use Rattle.isa.specs.declared.answer.Refusal.{Refusal}
 use Rattle.isa.specs.declared.answer.Refusal.the-variants.{Kind, Target, Overlap, Bodies}
 use Rattle.isa.specs.declared.answer.Answer.{Answer}
@@ -27,7 +27,7 @@ seen-next k i = ap (λ (x : ℕ). seenOf x i) (add-one k)
 -- ---- overlap
 
 -- two entries of one kind, the first not empty: the second empty; before the first; or not
-module _ (a b : Entry) (k : a .kind ≡ b .kind) (m : 0 < a .count) where
+module _ (a b : ImageEntry) (k : a .kind ≡ b .kind) (m : 0 < a .count) where
   pub meets-empty : b .count ≤ 0 → false ≡ meets a b
   unfolding meets
   meets-empty h = simp (eq-eqb (a .kind) (b .kind) k, lt-ltb 0 (a .count) m, le-ltb 0 (b .count) h)
@@ -51,7 +51,7 @@ module _ (a b : Entry) (k : a .kind ≡ b .kind) (m : 0 < a .count) where
       lt-ltb (a .start) (b .start + b .count) h,
     )
 
-module _ (e : Entry) (k : ℕ) (i : List ℕ) (h : 0 < k) where
+module _ (e : ImageEntry) (k : ℕ) (i : List ℕ) (h : 0 < k) where
   any-split : meetsAny e (seenOf k i) ≡ (meets e (entryAt (k - 1) i) || meetsAny e (seenOf (k - 1) i))
   unfolding seenOf
   any-split = ap (λ (x : ℕ). meetsAny e (seenOf x i)) a
@@ -65,7 +65,7 @@ module _ (e : Entry) (k : ℕ) (i : List ℕ) (h : 0 < k) where
   pub any-next : meets e (entryAt (k - 1) i) ≡ false → meetsAny e (seenOf k i) ≡ meetsAny e (seenOf (k - 1) i)
   any-next q = any-split ∙ ap (λ (b : Bool). b || meetsAny e (seenOf (k - 1) i)) q
 
-pub any-none : (e : Entry) (k : ℕ) (i : List ℕ) → k ≤ 0 → meetsAny e (seenOf k i) ≡ false
+pub any-none : (e : ImageEntry) (k : ℕ) (i : List ℕ) → k ≤ 0 → meetsAny e (seenOf k i) ≡ false
 unfolding seenOf
 any-none e k i h = ap (λ (x : ℕ). meetsAny e (seenOf x i)) a
   where
@@ -75,7 +75,7 @@ any-none e k i h = ap (λ (x : ℕ). meetsAny e (seenOf x i)) a
 -- ---- answers
 
 -- the first entry's answer, then those of the rest
-pub entries-split : (words : ℕ) (seen : List Entry) (e : Entry) (es : List Entry)
+pub entries-split : (words : ℕ) (seen : List ImageEntry) (e : ImageEntry) (es : List ImageEntry)
     → entriesAnswer words seen (e ∷ es) ≡ firstOf (entryAnswer words seen e) (entriesAnswer words (e ∷ seen) es)
 unfolding targetAnswer overlapAnswer
 entries-split words seen e es =
@@ -98,7 +98,7 @@ module _ (words k n : ℕ) (i : List ℕ) where
   at-k h =
       ap (entriesAnswer words (seenOf k i)) (rest-next k n i h)
       ∙ entries-split words (seenOf k i) (entryAt k i) (restOf (k + 1) n i)
-      ∙ ap (λ (x : List Entry). firstOf (entryAnswer words (seenOf k i) (entryAt k i))
+      ∙ ap (λ (x : List ImageEntry). firstOf (entryAnswer words (seenOf k i) (entryAt k i))
       (entriesAnswer words x (restOf (k + 1) n i))) (sym (seen-next k i))
 
   pub entries-pass : k < n → entryAnswer words (seenOf k i) (entryAt k i) ≡ Done

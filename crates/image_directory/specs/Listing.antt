@@ -4,7 +4,7 @@ use mathlib.Core.Bool.{cond, not}
 use mathlib.Core.List.{List, [], _∷_}
 use lib.ListN.{drop, length}
 use lib.Dec.{ltb, eqb}
-use Rattle.isa.specs.Images.{Entry, entriesOf, entryCount, contents, knownKind, sizeOf, meetsAny, entriesAnswer}
+use Rattle.isa.specs.Images.{ImageEntry, entriesOf, entryCount, contents, knownKind, sizeOf, meetsAny, entriesAnswer}
 use Rattle.isa.specs.Images.{namedWords}
 use Rattle.isa.specs.declared.answer.Refusal.the-variants.{Kind, Target, Overlap, Bodies}
 use Rattle.isa.specs.declared.answer.Answer.{Answer}
@@ -13,20 +13,20 @@ use Rattle.checks.specs.Answers.{firstOf}
 use Rattle.image_directory.specs.Entries.{entryAt}
 
 -- the entries before entry k, the last first
-unfoldable pub seenOf : ℕ → List ℕ → List Entry
+unfoldable pub seenOf : ℕ → List ℕ → List ImageEntry
 seenOf zero i = []
 seenOf (suc k) i = entryAt k i ∷ seenOf k i
 
 -- refusals 5 and 6; 7; all three; 8
-unfoldable pub targetAnswer : ℕ → Entry → Answer
+unfoldable pub targetAnswer : ℕ → ImageEntry → Answer
 targetAnswer words e =
     cond (not (knownKind (e .kind))) (Refused Kind)
     (cond (ltb (sizeOf words (e .kind)) (e .start + e .count)) (Refused Target) Done)
 
-unfoldable pub overlapAnswer : List Entry → Entry → Answer
+unfoldable pub overlapAnswer : List ImageEntry → ImageEntry → Answer
 overlapAnswer seen e = cond (meetsAny e seen) (Refused Overlap) Done
 
-abbrev pub entryAnswer : ℕ → List Entry → Entry → Answer
+abbrev pub entryAnswer : ℕ → List ImageEntry → ImageEntry → Answer
 entryAnswer words seen e = firstOf (targetAnswer words e) (overlapAnswer seen e)
 
 unfoldable pub bodyAnswer : ℕ → List ℕ → Answer

@@ -10,7 +10,7 @@ use lib.ListN.{length, drop, length-drop}
 use lib.Dec.{ltb, eqb}
 use borrow.Author.Tests.{ltb-false, eqb-true}
 use Rattle.isa.specs.Machine.{sizesFit}
-use Rattle.isa.specs.Images.{Entry, entryCount, contents, bodies, contentsFit, entriesOf, knownKind, sizeOf}
+use Rattle.isa.specs.Images.{ImageEntry, entryCount, contents, bodies, contentsFit, entriesOf, knownKind, sizeOf}
 use Rattle.isa.specs.Images.{entriesAnswer, namedWords, loadedWords, loadedState}
 use Rattle.isa.specs.Answers.{LoadCall, loadAnswer, bodiesAnswer, loadCall, loadCallBy}
 use Rattle.isa.specs.declared.machine.State.{State}
@@ -23,7 +23,7 @@ use Rattle.image_directory.specs.Listing.{targetAnswer, overlapAnswer, entryAns
 use Rattle.image_directory.proofs.Entries.{contents-some, contents-whole}
 use Rattle.image_directory.proofs.Listed.{entries-split}
 use Rattle.image_load.specs.Placing.{Inside, Placeable}
-use Rattle.image_load.specs.declared.Loaded.{Loaded}
+use Rattle.image_load.specs.declared.LoadResult.{LoadResult}
 use Rattle.image_load.specs.Loading.{imageAnswer, rangeAnswer, callOf, byAnswer}
 
 -- ---- what may be stored
@@ -32,7 +32,7 @@ pub first-done : (a x : Answer) → firstOf a x ≡ Done → (a ≡ Done) × (x 
 first-done Done x p = (refl, p)
 first-done (Refused r) x p = absurd (refused-not-done r p)
 
-target-inside : (words k : ℕ) (e : Entry) → targetAnswer words e ≡ Done → e .kind ≡ k
+target-inside : (words k : ℕ) (e : ImageEntry) → targetAnswer words e ≡ Done → e .kind ≡ k
     → e .start + e .count ≤ sizeOf words k
 unfolding targetAnswer
 target-inside words k e p q =
@@ -46,7 +46,7 @@ target-inside words k e p q =
     go true true l d = absurd (refused-not-done Target d)
     go true false l d = ltb-false (sizeOf words (e .kind)) (e .start + e .count) l
 
-entries-inside : (words k : ℕ) (seen es : List Entry) → entriesAnswer words seen es ≡ Done
+entries-inside : (words k : ℕ) (seen es : List ImageEntry) → entriesAnswer words seen es ≡ Done
     → Inside k (sizeOf words k) es
 entries-inside words k seen [] p = tt
 entries-inside words k seen (e ∷ es) p =
@@ -127,7 +127,7 @@ module _ (s : State) (i m t : List ℕ) where
       go true true Done = last (eqb (namedWords (contents i)) (length (bodies i)))
 
   -- the calls of load, put together
-  module _ (a b : Answer) (u : State) (r : Loaded) (m′ t′ : List ℕ) (ha : a ≡ imageAnswer i m t)
+  module _ (a b : Answer) (u : State) (r : LoadResult) (m′ t′ : List ℕ) (ha : a ≡ imageAnswer i m t)
       (hu : u ≡ byAnswer a (loadedState i) s)
       (hb : b ≡ firstOf a (rangeAnswer u)) where
     answer-is : b ≡ loadAnswer i m t

@@ -10,7 +10,7 @@ use lib.ListN.{length, getD, take, drop, length-drop, drop-of-length-le}
 use lib.Seq.{paste, take-all, drop-drop}
 use lib.Dec.{eqb}
 use borrow.Author.Tests.{eq-eqb}
-use Rattle.isa.specs.Images.{Entry, entriesOf, namedWords, placed, contents, bodies}
+use Rattle.isa.specs.Images.{ImageEntry, entriesOf, namedWords, placed, contents, bodies}
 use Rattle.image_directory.specs.Entries.{entryAt, restOf}
 use Rattle.image_directory.proofs.Entries.{rest-next, rest-end, rest-start, named-next}
 use Rattle.image_load.specs.Placing.{Inside, Placeable}
@@ -26,18 +26,18 @@ module _ (k size j n : ℕ) (i : List ℕ) (h : j < n) (q : Inside k size (restO
   inside-next = both .1
 
 -- one entry more
-pub placed-step : (k j n at at′ : ℕ) (i d d′ : List ℕ) (e : Entry) → j < n → e ≡ entryAt j i
+pub placed-step : (k j n at at′ : ℕ) (i d d′ : List ℕ) (e : ImageEntry) → j < n → e ≡ entryAt j i
     → d′ ≡ cond (eqb (e .kind) k) (paste d (e .start) (drop at i) (e .count)) d
     → at′ ≡ at + e .count
     → placed k (restOf j n i) (drop at i) d ≡ placed k (restOf (j + 1) n i) (drop at′ i) d′
 placed-step k j n at at′ i d d′ e h q p a =
-    ap (λ (es : List Entry). placed k es (drop at i) d) (rest-next j n i h)
-    ∙ ap (λ (x : Entry). placed k (restOf (j + 1) n i) (drop (x .count) (drop at i))
+    ap (λ (es : List ImageEntry). placed k es (drop at i) d) (rest-next j n i h)
+    ∙ ap (λ (x : ImageEntry). placed k (restOf (j + 1) n i) (drop (x .count) (drop at i))
     (cond (eqb (x .kind) k) (paste d (x .start) (drop at i) (x .count)) d)) (sym q)
     ∙ (λ z. placed k (restOf (j + 1) n i) ((drop-drop (e .count) at i ∙ ap (λ (x : ℕ). drop x i) (sym a)) z) (sym p z))
 
 pub placed-end : (k j n : ℕ) (i b d : List ℕ) → n ≤ j → placed k (restOf j n i) b d ≡ d
-placed-end k j n i b d h = ap (λ (es : List Entry). placed k es b d) (rest-end j n i h)
+placed-end k j n i b d h = ap (λ (es : List ImageEntry). placed k es b d) (rest-end j n i h)
 
 -- the entries of an image, from the first on
 pub from-first : (n : ℕ) (i : List ℕ) → n ≡ getD i 0 0 → restOf 0 n i ≡ contents i
@@ -55,14 +55,14 @@ module _ (k size n : ℕ) (i : List ℕ) (e : n ≡ getD i 0 0) (p : Placeable k
   start-all = (λ j. 1 + e j * 5 + namedWords (from-first n i e j)) ∙ p .all
 
 -- what an entry's body needs
-pub body-lies : (k size j n at : ℕ) (i : List ℕ) (e : Entry) → j < n → e ≡ entryAt j i
+pub body-lies : (k size j n at : ℕ) (i : List ℕ) (e : ImageEntry) → j < n → e ≡ entryAt j i
     → at + namedWords (restOf j n i) ≡ length i
     → Inside k size (restOf j n i)
     → (at + e .count ≤ length i) × (e .kind ≡ k → e .start + e .count ≤ size)
 body-lies k size j n at i e h q a p = (
-  subst (λ (x : Entry). at + x .count ≤ length i) (sym q)
+  subst (λ (x : ImageEntry). at + x .count ≤ length i) (sym q)
       (within (namedWords (restOf (j + 1) n i)) (named-next j n i h)),
-  subst (λ (x : Entry). x .kind ≡ k → x .start + x .count ≤ size) (sym q) (inside-this k size j n i h p),
+  subst (λ (x : ImageEntry). x .kind ≡ k → x .start + x .count ≤ size) (sym q) (inside-this k size j n i h p),
 )
   where
     within : (x : ℕ) → namedWords (restOf j n i) ≡ entryAt j i .count + x → at + entryAt j i .count ≤ length i

@@ -11,7 +11,7 @@ use Rattle.isa.specs.declared.answer.Refusal.the-variants.{Sizes, State as Stat
 use Rattle.isa.specs.declared.answer.Answer.{Answer}
 use Rattle.isa.specs.declared.answer.Answer.the-variants.{Done, Refused}
 use Rattle.image_directory.specs.Listing.{listAnswer}
-use Rattle.image_load.specs.declared.Loaded.{Loaded}
+use Rattle.image_load.specs.declared.LoadResult.{LoadResult}
 
 -- all refusals but 2; 2
 unfoldable pub imageAnswer : List ℕ → List ℕ → List ℕ → Answer
@@ -22,7 +22,7 @@ unfoldable pub rangeAnswer : State → Answer
 rangeAnswer s = cond (not (inRange s)) (Refused StateRange) Done
 
 -- what load answers and leaves, as one call
-abbrev pub callOf : Loaded → List ℕ → List ℕ → LoadCall
+abbrev pub callOf : LoadResult → List ℕ → List ℕ → LoadCall
 callOf r m t = record { answer = r .answer; state = r .state; memory = m; tables = t }
 
 -- what an answer leaves: the new where it is done, the old where it refuses

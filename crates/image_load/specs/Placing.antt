@@ -5,10 +5,10 @@ use mathlib.Core.Bool.{true}
 use mathlib.Core.List.{List, [], _∷_}
 use lib.ListN.{getD, length}
 use lib.Dec.{T}
-use Rattle.isa.specs.Images.{Entry, contents, namedWords}
+use Rattle.isa.specs.Images.{ImageEntry, contents, namedWords}
 
 -- each entry of kind k lies within so many words
-abbrev pub Inside : ℕ → ℕ → List Entry → Type 0
+abbrev pub Inside : ℕ → ℕ → List ImageEntry → Type 0
 Inside k size [] = T true
 Inside k size (e ∷ es) = (e .kind ≡ k → e .start + e .count ≤ size) × Inside k size es
 

@@ -16,22 +16,22 @@ pub mod bodies;
 mod loading;
 
 // What load answers, and the state that it makes or hands back.
-pub struct Loaded {
+pub struct LoadResult {
     pub answer: Answer,
     pub state: State,
 }
 
 // The state that an answer leaves: the new one where it is done.
-fn left_by(a: Answer, new: State, old: State) -> Loaded
+fn left_by(a: Answer, new: State, old: State) -> LoadResult
     ensures { λ r. ⌜ r .answer ≡ a ⌝ }
     ensures { λ r. ⌜ r .state ≡ byAnswer a new old ⌝ }
 {
     match a {
-        Answer::Done => Loaded {
+        Answer::Done => LoadResult {
             answer: Answer::Done,
             state: new,
         },
-        Answer::Refused(r) => Loaded {
+        Answer::Refused(r) => LoadResult {
             answer: Answer::Refused(r),
             state: old,
         },
@@ -40,7 +40,7 @@ fn left_by(a: Answer, new: State, old: State) -> Loaded
 
 // The machine of an image. Every refusal, 1, 4 to 8 and 2, comes before the first store and leaves state, memory and
 // page tables.
-pub fn load(s: State, image: &[u16], mem: &mut [u16], tables: &mut [u16]) -> Loaded
+pub fn load(s: State, image: &[u16], mem: &mut [u16], tables: &mut [u16]) -> LoadResult
     ensures { λ r. ⌜ callOf r (now (mem .exit)) (now (tables .exit))
         ≡ loadCall s (now (image .entry)) (now (mem .entry)) (now (tables .entry)) ⌝ }
 {

@@ -10,8 +10,8 @@ use lib.Seq.{getD-set-same, getD-set-other, set-out}
 use lib.Dec.{eqb}
 use Rattle.isa.specs.Pages.{Entry, entryOf, entryAt, markOf}
 use Rattle.isa.specs.Isolation.{MarksAlone}
-use Rattle.isa.specs.declared.access.Kind.{Kind}
-use Rattle.isa.specs.declared.access.Kind.the-variants.{Fetch, Read, Write, Indirect}
+use Rattle.isa.specs.declared.access.AccessKind.{AccessKind}
+use Rattle.isa.specs.declared.access.AccessKind.the-variants.{Fetch, Read, Write, Indirect}
 
 -- the entries of t are those of t₀ but for their marks
 abbrev pub Marked : List ℕ → List ℕ → Type 0
@@ -52,19 +52,19 @@ like-word e f h l = record {
 }
 
 -- a mark changes marks alone
-mark-top : (k : Kind) (e : ℕ) → markOf k e / 8192 ≡ e / 8192
+mark-top : (k : AccessKind) (e : ℕ) → markOf k e / 8192 ≡ e / 8192
 mark-top Fetch e = omega arith
 mark-top Read e = omega arith
 mark-top Write e = omega arith
 mark-top Indirect e = omega arith
 
-mark-low : (k : Kind) (e : ℕ) → markOf k e % 2048 ≡ e % 2048
+mark-low : (k : AccessKind) (e : ℕ) → markOf k e % 2048 ≡ e % 2048
 mark-low Fetch e = omega arith
 mark-low Read e = omega arith
 mark-low Write e = omega arith
 mark-low Indirect e = omega arith
 
-pub mark-keeps : (t t₀ : List ℕ) (i : ℕ) (k : Kind) → Marked t t₀ → Marked (set t i (markOf k (getD t i 0))) t₀
+pub mark-keeps : (t t₀ : List ℕ) (i : ℕ) (k : AccessKind) → Marked t t₀ → Marked (set t i (markOf k (getD t i 0))) t₀
 mark-keeps t t₀ i k h j =
     then-entry (entryAt (set t i v) j) (entryAt t j) (entryAt t₀ j) (go (ℕ-discrete j i) (decLt i (length t))) (h j)
   where

@@ -14,8 +14,8 @@ use Rattle.isa.specs.Pages.{Entry, entryAt, somePermit, needed, ringAllo
 use Rattle.isa.specs.Pages.{withinMemory, judged}
 use Rattle.isa.specs.Isolation.{MarksAlone, permits, permitsWriting, someBelow, someEntry, inEither, permitted}
 use Rattle.isa.specs.Isolation.{permittedWriting}
-use Rattle.isa.specs.declared.access.Kind.{Kind}
-use Rattle.isa.specs.declared.access.Kind.the-variants.{Fetch, Read, Write, Indirect}
+use Rattle.isa.specs.declared.access.AccessKind.{AccessKind}
+use Rattle.isa.specs.declared.access.AccessKind.the-variants.{Fetch, Read, Write, Indirect}
 use Rattle.isa.specs.declared.access.Translation.{Translation}
 use Rattle.isa.specs.declared.access.Translation.the-variants.{NoAccess, Load, Store, LoadTable, StoreTable}
 use Rattle.isa.specs.declared.access.Translation.the-variants.{Protection, PageFault, OutOfRange}
@@ -111,13 +111,13 @@ module _ (e : Entry) (ring va : ℕ) (some : somePermit e ≡ true) (allows : ri
       and-both (and-both some allows)
       (eq-eqb (e .page) (physical e va / 1024) (sym (page-of e va)))
 
-  kind-by : (k : Kind) → needed e k ≡ true → By e ring (inMemory k (physical e va))
+  kind-by : (k : AccessKind) → needed e k ≡ true → By e ring (inMemory k (physical e va))
   kind-by Fetch n = own-page
   kind-by Read n = own-page
   kind-by Write n = and-both own-page n
   kind-by Indirect n = own-page
 
-pub judged-by : (e : Entry) (slot words ring : ℕ) (k : Kind) (va : ℕ) → By e ring (judged e slot words ring k va)
+pub judged-by : (e : Entry) (slot words ring : ℕ) (k : AccessKind) (va : ℕ) → By e ring (judged e slot words ring k va)
 unfolding judged withinMemory
 judged-by e slot words ring k va =
     go (somePermit e) refl (needed e k) refl (ringAllows e ring) refl (ltb (physical e va) words)

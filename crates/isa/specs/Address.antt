@@ -12,8 +12,8 @@ use Rattle.isa.specs.declared.instruction.Mode.the-variants.{PRelative, 
 use Rattle.isa.specs.declared.instruction.Mode.the-variants.{XRelative, BIndexed, PIndirectIndexed}
 use Rattle.isa.specs.declared.instruction.Mode.the-variants.{BIndirectIndexed}
 use Rattle.isa.specs.declared.access.Access.{Access}
-use Rattle.isa.specs.declared.access.Kind.{Kind}
-use Rattle.isa.specs.declared.access.Kind.the-variants.{Indirect}
+use Rattle.isa.specs.declared.access.AccessKind.{AccessKind}
+use Rattle.isa.specs.declared.access.AccessKind.the-variants.{Indirect}
 
 -- "Address sums drop every carry out of bit 15; so do ea+1 and ea+2."
 abbrev pub sum : ℕ → ℕ → ℕ
@@ -58,7 +58,7 @@ addressRule PIndirectIndexed = true
 addressRule BIndirectIndexed = true
 
 -- one access
-abbrev pub access : Kind → Bool → ℕ → Access
+abbrev pub access : AccessKind → Bool → ℕ → Access
 access k r a = record { kind = k; alternate = r; address = a }
 
 -- the access for the indirect word, where the mode has one

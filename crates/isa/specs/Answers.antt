@@ -8,7 +8,7 @@ use Rattle.isa.specs.Machine.{tableWords, withBit, inRange, sizesFit}
 use Rattle.isa.specs.System.{withPid}
 use Rattle.isa.specs.Step.{step, Turn}
 use Rattle.isa.specs.Run.{Run, runFrom}
-use Rattle.isa.specs.Images.{Entry, contents, bodies, contentsFit, kindMemory, kindTables, knownKind, sizeOf}
+use Rattle.isa.specs.Images.{ImageEntry, contents, bodies, contentsFit, kindMemory, kindTables, knownKind, sizeOf}
 use Rattle.isa.specs.Images.{meetsAny, entriesAnswer, namedWords, loadedWords, loadedState, imageOf, imageSize}
 use Rattle.isa.specs.declared.machine.State.{State}
 use Rattle.isa.specs.declared.answer.Reason.{Reason}
@@ -265,7 +265,7 @@ unfoldable pub raiseTold : State → ℕ → List ℕ → List ℕ → Told
 raiseTold s l m t = tellsBy (stateTests s m t ++ ((not (deviceLevel l), 3) ∷ [])) []
 
 -- "for each entry 5, unknown kind, 6, start plus length beyond its target's size, 7, covering a word already named"
-abbrev pub entryTests : ℕ → List Entry → List Entry → List (Bool × ℕ)
+abbrev pub entryTests : ℕ → List ImageEntry → List ImageEntry → List (Bool × ℕ)
 entryTests words seen [] = []
 entryTests words seen (e ∷ es) =
     (not (knownKind (e .kind)), 5)

@@ -27,8 +27,8 @@ use Rattle.isa.specs.declared.instruction.CarryIn.{CarryIn}
 use Rattle.isa.specs.declared.instruction.CarryIn.the-variants.{NoCarry, One, Previous}
 use Rattle.isa.specs.declared.instruction.ShiftKind.{ShiftKind}
 use Rattle.isa.specs.declared.instruction.ShiftKind.the-variants.{Arithmetic, Rotational, ZeroInput, LinkInput}
-use Rattle.isa.specs.declared.instruction.ShiftTarget.{ShiftTarget}
-use Rattle.isa.specs.declared.instruction.ShiftTarget.the-variants.{Sht, Shd, Sha, Sad}
+use Rattle.isa.specs.declared.instruction.Shiftable.{Shiftable}
+use Rattle.isa.specs.declared.instruction.Shiftable.the-variants.{Sht, Shd, Sha, Sad}
 use Rattle.isa.specs.declared.instruction.Argument.{Argument}
 use Rattle.isa.specs.declared.instruction.Argument.the-variants.{ArgumentB, ArgumentA, ArgumentT, ArgumentX}
 use Rattle.isa.specs.declared.instruction.BitOp.{BitOp}
@@ -112,14 +112,14 @@ abbrev pub argumentOf : ℕ → Argument
 argumentOf w = byNumber ArgumentB (ArgumentA ∷ ArgumentT ∷ ArgumentX ∷ []) (w / 256 % 4)
 
 -- the shift's register by bits 8-7, its kind by bits 10-9; a shift word with bit 6 set is illegal
-abbrev pub targetOf : ℕ → ShiftTarget
-targetOf w = byNumber Sht (Shd ∷ Sha ∷ Sad ∷ []) (w / 128 % 4)
+abbrev pub shiftableOf : ℕ → Shiftable
+shiftableOf w = byNumber Sht (Shd ∷ Sha ∷ Sad ∷ []) (w / 128 % 4)
 
 abbrev pub kindOf : ℕ → ShiftKind
 kindOf w = byNumber Arithmetic (Rotational ∷ ZeroInput ∷ LinkInput ∷ []) (w / 512 % 4)
 
 unfoldable pub shiftOf : ℕ → Instruction
-shiftOf w = cond (eqb (bit 6 w) 0) (Unprivileged (Shift (targetOf w) (kindOf w) (countOf w))) Illegal
+shiftOf w = cond (eqb (bit 6 w) 0) (Unprivileged (Shift (shiftableOf w) (kindOf w) (countOf w))) Illegal
 
 -- the bit instructions by bits 10-7
 abbrev pub bitOpOf : ℕ → BitOp

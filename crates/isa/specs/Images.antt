@@ -12,7 +12,7 @@ use Rattle.isa.specs.declared.answer.Answer.{Answer}
 use Rattle.isa.specs.declared.answer.Answer.the-variants.{Done, Refused}
 
 -- "An entry is five words: kind .. start (two words, high first), length (two)."
-pub record Entry : Type 0 where
+pub record ImageEntry : Type 0 where
   pub kind : ℕ
   pub start : ℕ
   pub count : ℕ
@@ -24,7 +24,7 @@ abbrev pub twoWords : ℕ → ℕ → ℕ
 twoWords high low = high * wordRange + low
 
 -- `contentsFit` below is tested first, so all five words are there
-abbrev pub entryOf : List ℕ → Entry
+abbrev pub entryOf : List ℕ → ImageEntry
 entryOf ws = record {
   kind = getD ws 0 0;
   start = twoWords (getD ws 1 0) (getD ws 2 0);
@@ -32,7 +32,7 @@ entryOf ws = record {
 }
 
 -- so many entries from the front of the words
-abbrev pub entriesOf : ℕ → List ℕ → List Entry
+abbrev pub entriesOf : ℕ → List ℕ → List ImageEntry
 entriesOf zero ws = []
 entriesOf (suc n) ws = entryOf ws ∷ entriesOf n (drop entrySize ws)
 
@@ -40,7 +40,7 @@ entriesOf (suc n) ws = entryOf ws ∷ entriesOf n (drop entrySize ws)
 abbrev pub entryCount : List ℕ → ℕ
 entryCount i = getD i 0 0
 
-abbrev pub contents : List ℕ → List Entry
+abbrev pub contents : List ℕ → List ImageEntry
 contents i = entriesOf (entryCount i) (drop 1 i)
 
 abbrev pub bodies : List ℕ → List ℕ
@@ -79,18 +79,18 @@ sizeOf words k =
 
 -- "covering a word already named": two entries that meet. "A length of 0 covers nothing." Ruling 26: entries overlap
 -- only within one kind.
-unfoldable pub meets : Entry → Entry → Bool
+unfoldable pub meets : ImageEntry → ImageEntry → Bool
 meets a b =
     eqb (a .kind) (b .kind) && ltb 0 (a .count) && ltb 0 (b .count) && ltb (a .start) (b .start + b .count)
     && ltb (b .start) (a .start + a .count)
 
-abbrev pub meetsAny : Entry → List Entry → Bool
+abbrev pub meetsAny : ImageEntry → List ImageEntry → Bool
 meetsAny a [] = false
 meetsAny a (b ∷ bs) = meets a b || meetsAny a bs
 
 -- "for each entry 5, unknown kind, 6, start plus length beyond its target's size, 7, covering a word already named":
 -- the entries after those seen, one by one (ruling 26)
-abbrev pub entriesAnswer : ℕ → List Entry → List Entry → Answer
+abbrev pub entriesAnswer : ℕ → List ImageEntry → List ImageEntry → Answer
 entriesAnswer words seen [] = Done
 entriesAnswer words seen (e ∷ es) =
     cond (not (knownKind (e .kind))) (Refused Kind)
@@ -98,13 +98,13 @@ entriesAnswer words seen (e ∷ es) =
     (cond (meetsAny e seen) (Refused Overlap) (entriesAnswer words (e ∷ seen) es)))
 
 -- the words that the entries name in all
-abbrev pub namedWords : List Entry → ℕ
+abbrev pub namedWords : List ImageEntry → ℕ
 namedWords [] = 0
 namedWords (e ∷ es) = e .count + namedWords es
 
 -- The words of a kind after loading: each entry's body in its place. "words not named load as 0". The refusals before
 -- have made sure that each place and each body is there.
-abbrev pub placed : ℕ → List Entry → List ℕ → List ℕ → List ℕ
+abbrev pub placed : ℕ → List ImageEntry → List ℕ → List ℕ → List ℕ
 placed k [] body target = target
 placed k (e ∷ es) body target =
     placed k es (drop (e .count) body) (cond (eqb (e .kind) k) (paste target (e .start) body (e .count)) target)

@@ -26,8 +26,8 @@ use Rattle.isa.specs.declared.instruction.LogicOp.the-variants.{Swap, Ra
 use Rattle.isa.specs.declared.instruction.CarryIn.{CarryIn}
 use Rattle.isa.specs.declared.instruction.CarryIn.the-variants.{NoCarry, One, Previous}
 use Rattle.isa.specs.declared.instruction.ShiftKind.{ShiftKind}
-use Rattle.isa.specs.declared.instruction.ShiftTarget.{ShiftTarget}
-use Rattle.isa.specs.declared.instruction.ShiftTarget.the-variants.{Sht, Shd, Sha, Sad}
+use Rattle.isa.specs.declared.instruction.Shiftable.{Shiftable}
+use Rattle.isa.specs.declared.instruction.Shiftable.the-variants.{Sht, Shd, Sha, Sad}
 use Rattle.isa.specs.declared.instruction.Argument.{Argument}
 use Rattle.isa.specs.declared.instruction.Argument.the-variants.{ArgumentB, ArgumentA, ArgumentT, ArgumentX}
 use Rattle.isa.specs.declared.instruction.BitOp.{BitOp}
@@ -39,19 +39,19 @@ use Rattle.isa.specs.declared.instruction.User.the-variants.{Memory, Jum
 use Rattle.isa.specs.declared.instruction.User.the-variants.{NoOperation, Shift, SetArgument, AddArgument, Bit}
 use Rattle.isa.specs.declared.instruction.User.the-variants.{LoadByte, StoreByte, Mix3, Multiply, Divide}
 use Rattle.isa.specs.declared.access.Access.{Access}
-use Rattle.isa.specs.declared.access.Kind.{Kind}
-use Rattle.isa.specs.declared.access.Kind.the-variants.{Read, Write}
+use Rattle.isa.specs.declared.access.AccessKind.{AccessKind}
+use Rattle.isa.specs.declared.access.AccessKind.the-variants.{Read, Write}
 
 -- ---- which accesses, in order
 
 -- one, two or three words from the address on; ruling 6: each is an access of its own, by its own address
-abbrev pub oneWord : Kind → Bool → ℕ → List Access
+abbrev pub oneWord : AccessKind → Bool → ℕ → List Access
 oneWord k r a = access k r a ∷ []
 
-abbrev pub twoWords : Kind → Bool → ℕ → List Access
+abbrev pub twoWords : AccessKind → Bool → ℕ → List Access
 twoWords k r a = access k r a ∷ access k r (sum a 1) ∷ []
 
-abbrev pub threeWords : Kind → Bool → ℕ → List Access
+abbrev pub threeWords : AccessKind → Bool → ℕ → List Access
 threeWords k r a = access k r a ∷ access k r (sum a 1) ∷ access k r (sum a 2) ∷ []
 
 -- "MIN and SBYT read their word and then write it: two accesses."
@@ -241,7 +241,7 @@ shiftDouble f k n =
     let s = shiftBy 32 k n (record { value = reg f A * wordRange + reg f D; m = flag flagM f }) in
     withReg (withReg (withFlag flagM (s .m) f) A (s .value / wordRange)) D (s .value % wordRange)
 
-abbrev pub shifted : File → ShiftTarget → ShiftKind → ℤ → File
+abbrev pub shifted : File → Shiftable → ShiftKind → ℤ → File
 shifted f Sht k n = shiftIn f T k n
 shifted f Shd k n = shiftIn f D k n
 shifted f Sha k n = shiftIn f A k n

@@ -10,8 +10,8 @@ use Rattle.isa.specs.Machine.{alternateTableOf, withPcr}
 use Rattle.isa.specs.declared.machine.Core.{Core}
 use Rattle.isa.specs.declared.machine.Register.the-variants.{Sts}
 use Rattle.isa.specs.declared.access.Access.{Access}
-use Rattle.isa.specs.declared.access.Kind.{Kind}
-use Rattle.isa.specs.declared.access.Kind.the-variants.{Fetch, Read, Write, Indirect}
+use Rattle.isa.specs.declared.access.AccessKind.{AccessKind}
+use Rattle.isa.specs.declared.access.AccessKind.the-variants.{Fetch, Read, Write, Indirect}
 use Rattle.isa.specs.declared.access.Rights.{Rights}
 use Rattle.isa.specs.declared.access.Triple.{Triple}
 use Rattle.isa.specs.declared.access.Translation.{Translation}
@@ -52,7 +52,7 @@ abbrev pub somePermit : Entry → Bool
 somePermit e = e .write || e .read || e .fetch
 
 -- "the needed permit missing (an indirect word needs read or fetch)"
-abbrev pub needed : Entry → Kind → Bool
+abbrev pub needed : Entry → AccessKind → Bool
 needed e Fetch = e .fetch
 needed e Read = e .read
 needed e Write = e .write
@@ -69,7 +69,7 @@ physical e a = e .page * pageWords + a % pageWords
 -- "Interrupts 2 and 3 set PGS: bit 15 instruction fetch, 14 permit missing (so with every 3), 7-6 table, 5-0 virtual
 -- page." The last two together are the entry's slot. Ruling 7: an indirect word is no instruction fetch, and the table
 -- is the one that was used.
-abbrev pub fetchBit : Kind → ℕ
+abbrev pub fetchBit : AccessKind → ℕ
 fetchBit Fetch = 0o100000
 fetchBit Read = 0
 fetchBit Write = 0
@@ -79,29 +79,29 @@ fetchBit Indirect = 0
 abbrev pub missingBit : ℕ
 missingBit = 0o040000
 
-abbrev pub pagingStatus : Kind → ℕ → ℕ → ℕ
+abbrev pub pagingStatus : AccessKind → ℕ → ℕ → ℕ
 pagingStatus k missing slot = fetchBit k + missing + slot
 
 -- where a passed access goes: to load or to store a word of memory, or of the page tables
-abbrev pub inMemory : Kind → ℕ → Translation
+abbrev pub inMemory : AccessKind → ℕ → Translation
 inMemory Fetch p = Load p
 inMemory Read p = Load p
 inMemory Write p = Store p
 inMemory Indirect p = Load p
 
-abbrev pub inTables : Kind → ℕ → Translation
+abbrev pub inTables : AccessKind → ℕ → Translation
 inTables Fetch i = LoadTable i
 inTables Read i = LoadTable i
 inTables Write i = StoreTable i
 inTables Indirect i = LoadTable i
 
 -- "page beyond the memory, interrupt 9"; words is the size of the memory
-unfoldable pub withinMemory : ℕ → Kind → ℕ → Translation
+unfoldable pub withinMemory : ℕ → AccessKind → ℕ → Translation
 withinMemory words k p = cond (ltb p words) (inMemory k p) OutOfRange
 
 -- "Tests in order: all three permits 0, interrupt 3; the needed permit missing .. interrupt 2; entry's ring above the
 -- user's, interrupt 2; page beyond the memory, interrupt 9."
-unfoldable pub judged : Entry → ℕ → ℕ → ℕ → Kind → ℕ → Translation
+unfoldable pub judged : Entry → ℕ → ℕ → ℕ → AccessKind → ℕ → Translation
 judged e slot words ring k a =
     cond (not (somePermit e)) (PageFault (pagingStatus k missingBit slot))
     (cond (not (needed e k)) (Protection (pagingStatus k missingBit slot))
@@ -150,7 +150,7 @@ abbrev pub passes : Translation → Bool
 passes x = eqb (faultOf x) 0
 
 -- "A passed access sets PGU, a passed write also WIP; a failed one neither."
-abbrev pub markOf : Kind → ℕ → ℕ
+abbrev pub markOf : AccessKind → ℕ → ℕ
 markOf Fetch e = e / 4096 * 4096 + 2048 + e % 2048
 markOf Read e = e / 4096 * 4096 + 2048 + e % 2048
 markOf Write e = e / 8192 * 8192 + 6144 + e % 2048

@@ -31,8 +31,8 @@ use Rattle.isa.specs.declared.instruction.Instruction.{Instruction}
 use Rattle.isa.specs.declared.instruction.Instruction.the-variants.{Unprivileged, Privileged, Execute, Monitor}
 use Rattle.isa.specs.declared.instruction.Instruction.the-variants.{Illegal}
 use Rattle.isa.specs.declared.access.Access.{Access}
-use Rattle.isa.specs.declared.access.Kind.{Kind}
-use Rattle.isa.specs.declared.access.Kind.the-variants.{Fetch, Read, Write}
+use Rattle.isa.specs.declared.access.AccessKind.{AccessKind}
+use Rattle.isa.specs.declared.access.AccessKind.the-variants.{Fetch, Read, Write}
 use Rattle.isa.specs.declared.access.Translation.{Translation}
 use Rattle.isa.specs.declared.access.Translation.the-variants.{NoAccess, Load, Store, LoadTable, StoreTable}
 use Rattle.isa.specs.declared.access.Translation.the-variants.{Protection, PageFault, OutOfRange}
@@ -261,11 +261,11 @@ pcrLevel s = fourOf (registerAt s (s .level) A)
 abbrev pub blockOrder : List Register
 blockOrder = P ∷ X ∷ T ∷ A ∷ D ∷ L ∷ Sts ∷ B ∷ []
 
-abbrev pub blockFrom : Kind → ℕ → List Register → List Access
+abbrev pub blockFrom : AccessKind → ℕ → List Register → List Access
 blockFrom k a [] = []
 blockFrom k a (r ∷ rs) = access k true a ∷ blockFrom k (sum a 1) rs
 
-abbrev pub blockRequest : Kind → State → List Access
+abbrev pub blockRequest : AccessKind → State → List Access
 blockRequest k s = blockFrom k (registerAt s (s .level) X) blockOrder
 
 abbrev pub blockWords : State → ℕ → List Register → List ℕ
@@ -292,7 +292,7 @@ blockLoaded s l m r =
     cond (passes (r .fault)) (turn (putBlock s l blockOrder (wordsAt m (r .tables) (r .places))) 0 m (r .tables))
     (blockFailed s (r .fault) m (r .tables))
 
-abbrev pub blockTested : Kind → State → List ℕ → List ℕ → Tested
+abbrev pub blockTested : AccessKind → State → List ℕ → List ℕ → Tested
 blockTested k s m t = testAll t (length m) (rightsOf (coreOf s)) (blockRequest k s)
 
 -- What the running level left to be done, on the state in which P is one further; so IRR of P and SRB of the running

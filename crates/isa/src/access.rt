@@ -1,6 +1,6 @@
 // An access to memory, what it is judged by, and what comes of it.
 // The kinds of access; Indirect is the access for an indirect word.
-pub enum Kind {
+pub enum AccessKind {
     Fetch,
     Read,
     Write,
@@ -9,7 +9,7 @@ pub enum Kind {
 
 // One access: its kind, whether it goes by the alternate rule, and the address.
 pub struct Access {
-    pub kind: Kind,
+    pub kind: AccessKind,
     pub alternate: bool,
     pub address: u16,
 }

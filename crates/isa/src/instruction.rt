@@ -84,7 +84,7 @@ pub enum ShiftKind {
 }
 
 // What is shifted: T, D, A, or A and D as one double word.
-pub enum ShiftTarget {
+pub enum Shiftable {
     Sht,
     Shd,
     Sha,
@@ -128,7 +128,7 @@ pub enum User {
     Logic(LogicOp, bool, bool, Register, Register),
     RegisterAdd(CarryIn, bool, bool, Register, Register),
     NoOperation,
-    Shift(ShiftTarget, ShiftKind, i16),
+    Shift(Shiftable, ShiftKind, i16),
     SetArgument(Argument, i16),
     AddArgument(Argument, i16),
     Bit(BitOp, u16, Register),

@@ -30,8 +30,8 @@ use Rattle.isa.specs.declared.instruction.System.the-variants.{Exam, Depo, Iox,
 use Rattle.isa.specs.declared.instruction.Instruction.{Instruction}
 use Rattle.isa.specs.declared.instruction.Instruction.the-variants.{Unprivileged, Privileged, Execute, Monitor, Illegal}
 use Rattle.isa.specs.declared.access.Access.{Access}
-use Rattle.isa.specs.declared.access.Kind.{Kind}
-use Rattle.isa.specs.declared.access.Kind.the-variants.{Read, Write}
+use Rattle.isa.specs.declared.access.AccessKind.{AccessKind}
+use Rattle.isa.specs.declared.access.AccessKind.the-variants.{Read, Write}
 use Rattle.isa.specs.declared.access.Rights.{Rights}
 use Rattle.isa.specs.declared.access.Translation.{Translation}
 use Rattle.isa.specs.declared.access.Translation.the-variants.{NoAccess, Load, Store, LoadTable, StoreTable, Protection}
@@ -246,7 +246,7 @@ module _ (s : State) (m t₀ : List ℕ) (l : s .level < 16) (n : length (s .reg
   loaded-keeps j r h =
       either (Keeps (s .regs) m t₀) (passes (r .fault)) (no-fault false) (block-keeps (r .fault) (r .tables) h)
 
-block-marks : (k : Kind) (s : State) (m t t₀ : List ℕ) → Marked t t₀ → Marked (blockTested k s m t .tables) t₀
+block-marks : (k : AccessKind) (s : State) (m t t₀ : List ℕ) → Marked t t₀ → Marked (blockTested k s m t .tables) t₀
 block-marks k s m t t₀ = tested-marks (blockRequest k s) t t₀ (length m) (rightsOf (coreOf s))
 
 -- the file f in the running level's place among all registers

@@ -17,7 +17,7 @@ use Rattle.isa.specs.Step.{blockTested, farStage, settled, highestLevel, change
 use Rattle.isa.specs.declared.machine.Control.{Control}
 use Rattle.isa.specs.declared.machine.State.{State}
 use Rattle.isa.specs.declared.machine.Register.{Register}
-use Rattle.isa.specs.declared.access.Kind.the-variants.{Read, Write}
+use Rattle.isa.specs.declared.access.AccessKind.the-variants.{Read, Write}
 use Rattle.isa.specs.declared.answer.Far.{Far}
 use Rattle.isa.specs.declared.answer.Far.the-variants.{Nothing, Call, ReadRegister, WriteRegister, ReadPcr, WritePcr}
 use Rattle.isa.specs.declared.answer.Far.the-variants.{StoreBlock, LoadBlock}

@@ -9,7 +9,7 @@ use lib.Dec.{ltb, eqb}
 use Rattle.isa.specs.Machine.{sizesFit, inRange}
 use Rattle.isa.specs.Step.{step}
 use Rattle.isa.specs.Run.{runFrom}
-use Rattle.isa.specs.Images.{Entry, contents, bodies, contentsFit, knownKind, sizeOf, meetsAny, entriesAnswer}
+use Rattle.isa.specs.Images.{ImageEntry, contents, bodies, contentsFit, knownKind, sizeOf, meetsAny, entriesAnswer}
 use Rattle.isa.specs.Images.{namedWords}
 use Rattle.isa.specs.Images.{loadedState, imageSize}
 use Rattle.isa.specs.Answers.{refusalNumber, reasonNumber, stateAnswer, stepCallBy, stepCall, runCallBy, runCall}
@@ -188,7 +188,7 @@ view-tells k a n m t = go (sizesFit m t) (ltb (length (targetOf k m t)) (a + n))
     go false y = refl
 
 -- the tests of entries, and others after them
-entries-tell : (words : ℕ) (seen es : List Entry) (xs : List (Bool × ℕ))
+entries-tell : (words : ℕ) (seen es : List ImageEntry) (xs : List (Bool × ℕ))
     → after (entriesAnswer words seen es) (tellsBy xs []) ≡ tellsBy (entryTests words seen es ++ xs) []
 entries-tell words seen [] xs = refl
 entries-tell words seen (e ∷ es) xs =

@@ -12,8 +12,8 @@ use Rattle.isa.specs.Machine.{reg, withReg, fileAt, putFile, pack, withCore}
 use Rattle.isa.specs.Pages.{faultOf, passes, Tested, testAll, wordsAt, storeAll, Lent, rightsOf}
 use Rattle.isa.specs.Step.{turn, faulted, withRegs, kept, isP, putRegister, putOther, blockOrder, blockFrom}
 use Rattle.isa.specs.Step.{blockWords, putBlock, blockFailed, blockStored, blockLoaded, blockTested}
-use Rattle.isa.specs.declared.access.Kind.{Kind}
-use Rattle.isa.specs.declared.access.Kind.the-variants.{Write}
+use Rattle.isa.specs.declared.access.AccessKind.{AccessKind}
+use Rattle.isa.specs.declared.access.AccessKind.the-variants.{Write}
 use Rattle.isa.specs.declared.machine.Core.{Core}
 use Rattle.isa.specs.declared.machine.File.{File}
 use Rattle.isa.specs.declared.machine.Register.{Register}
@@ -22,9 +22,9 @@ use Rattle.isa.specs.declared.machine.State.{State}
 use Rattle.isa.proofs.Packing.{put-put, put-take, open-pack, pack-pack}
 use Rattle.paging.specs.Within.{AllWithin}
 use Rattle.paging.proofs.Outcomes.{passes-zero, fails-other}
-use Rattle.operand_words.specs.Blocks.{blockPlaces, listOf, AllStoring}
-use Rattle.operand_words.specs.declared.block.Block.{Block}
-use Rattle.operand_words.proofs.BlockLaws.{block-stored}
+use Rattle.memory_words.specs.Blocks.{blockPlaces, listOf, AllStoring}
+use Rattle.memory_words.specs.declared.block.Block.{Block}
+use Rattle.memory_words.proofs.BlockLaws.{block-stored}
 use Rattle.isa.proofs.Packing.{register-at}
 use Rattle.levels.specs.Changes.{advancedTurn}
 use Rattle.levels.specs.declared.change.Advanced.{Advanced}
@@ -98,7 +98,7 @@ block-storing {c = c} words {t = t} {r = r} x f z =
     (x .outcome .within, subst AllStoring (sym (x .outcome .passed (passes-zero (r .fault) f z))) stored)
 
 -- a block was tested, and the running level's registers put back
-module _ (l : ℕ) (c : Core) (q : Kind) (b m t : List ℕ) {r : Block} {d u : List ℕ}
+module _ (l : ℕ) (c : Core) (q : AccessKind) (b m t : List ℕ) {r : Block} {d u : List ℕ}
     (x : BlockTest l c q b (length m) t r d u) (p : List ℕ) (k : length p ≡ levelCount) where
   abbrev state : State
   state = pack l c b p

@@ -9,14 +9,14 @@ ghost use Rattle.isa.specs.Machine.{reg, pack};
 ghost use Rattle.isa.specs.Pages.{faultOf};
 ghost use Rattle.isa.specs.Step.{faulted, withRegs, blockOrder, putBlock, blockTested, blockStored};
 ghost use Rattle.isa.specs.Step.{blockLoaded};
-ghost use Rattle.isa.specs.declared.access.Kind.the-variants.{Read, Write};
+ghost use Rattle.isa.specs.declared.access.AccessKind.the-variants.{Read, Write};
 ghost use Rattle.isa.specs.declared.machine.Register.the-variants.{P};
 ghost use Rattle.isa.specs.declared.machine.State.{State};
-ghost use Rattle.operand_words.specs.Blocks.{listOf};
+ghost use Rattle.memory_words.specs.Blocks.{listOf};
 ghost use Rattle.levels.specs.Changes.{advancedTurn};
 ghost use Rattle.level_effects.specs.Blocks.{BlockTest, withBlock};
 ghost use Rattle.level_effects.specs.Leaving.{leaving};
-use isa::access::Kind;
+use isa::access::AccessKind;
 use isa::access::Translation;
 use isa::constant::LEVELS;
 use isa::constant::STATUS_RANGE;
@@ -27,16 +27,23 @@ use levels::change::Advanced;
 use levels::file_at;
 use levels::put_file;
 use levels::registers::reloaded;
-use operand_words::block::Block;
-use operand_words::block_test::test_block;
-use operand_words::block_words::read_block;
-use operand_words::block_words::store_block;
+use memory_words::block::Block;
+use memory_words::block_test::test_block;
+use memory_words::block_words::read_block;
+use memory_words::block_words::store_block;
 use paging::place::fault_of;
 use paging::rights::rights;
 use trap::faulted;
 
 // The running level's registers are put back, and the accesses of the block from the address in X on are tested.
-fn tested(level: u16, c: Core, regs: &mut [u16], words: usize, tables: &mut [u16], k: Kind) -> Block
+fn tested(
+    level: u16,
+    c: Core,
+    regs: &mut [u16],
+    words: usize,
+    tables: &mut [u16],
+    k: AccessKind,
+) -> Block
     requires { ⌜ level < levelCount ⌝ }
     requires { ⌜ length (now regs) ≡ registerWords ⌝ }
     requires { ⌜ length (now tables) ≡ tableWords ⌝ }
@@ -109,7 +116,7 @@ pub fn block_stored(
         ≡ blockStored (pack level c (now (regs .entry)) p) l (now (mem .entry))
         (blockTested Write (pack level c (now (regs .entry)) p) (now (mem .entry)) (now (tables .entry)))) ⌝ }
 {
-    let b = tested(level, c, regs, mem.len(), tables, Kind::Write);
+    let b = tested(level, c, regs, mem.len(), tables, AccessKind::Write);
     let x = b.fault;
     if fault_of(x) == 0 {
         store_block(mem, tables, b, file_at(regs, l % LEVELS));
@@ -142,7 +149,7 @@ pub fn block_loaded(
         ≡ blockLoaded (pack level c (now (regs .entry)) p) l (now (mem .entry))
         (blockTested Read (pack level c (now (regs .entry)) p) (now (mem .entry)) (now (tables .entry)))) ⌝ }
 {
-    let b = tested(level, c, regs, mem.len(), tables, Kind::Read);
+    let b = tested(level, c, regs, mem.len(), tables, AccessKind::Read);
     let x = b.fault;
     if fault_of(x) == 0 {
         put_block(level, regs, l, read_block(mem, tables, b));

@@ -19,8 +19,8 @@ use Rattle.isa.specs.declared.answer.RunAnswer.the-variants.{Ran, Refused}
 abbrev pub stateIn : List ℕ → State
 stateIn w = stateOf (take registerWords w) (drop registerWords w)
 
-abbrev pub wordsOf : State → List ℕ
-wordsOf s = s .regs ++ controlWords s
+abbrev pub stateOrdered : State → List ℕ
+stateOrdered s = s .regs ++ controlWords s
 
 -- the number of a call that is no operation: a state of other than 154 words, a view of an unknown kind or into too few
 -- words; document 02 gives 11 to 18 to its requests
@@ -46,7 +46,7 @@ leftOf n w m t x = record { number = n; state = w; memory = m; tables = t; told 
 
 -- an operation that answers n, hands s back and tells x, called with the words w and y: a refusal leaves both
 unfoldable pub ended : ℕ → State → List ℕ → List ℕ → List ℕ → List ℕ → List ℕ → Left
-ended n s m t x w y = leftOf n (cond (eqb n 0) (wordsOf s) w) m t (cond (eqb n 0) x y)
+ended n s m t x w y = leftOf n (cond (eqb n 0) (stateOrdered s) w) m t (cond (eqb n 0) x y)
 
 -- the call as a whole: words that are no state are refused, and nothing changes
 unfoldable pub called : List ℕ → List ℕ → List ℕ → List ℕ → Left → Left

@@ -6,7 +6,7 @@ ghost use mathlib.Core.Bool.{true, false};
 ghost use Prim.Native.Nat.{ℕ};
 ghost use mathlib.Core.List.{List, _∷_, []};
 ghost use lib.ListN.{length};
-ghost use Rattle.nd110.specs.Calls.{wordsOf, leftOf, stepEnd, hostStep, runEnd, hostRun, reasonGiven};
+ghost use Rattle.nd110.specs.Calls.{stateOrdered, leftOf, stepEnd, hostStep, runEnd, hostRun, reasonGiven};
 ghost use Rattle.nd110.specs.Calls.{answerEnd, hostRaise, hostLoad, hostWrite, hostWritten, knownTarget};
 ghost use Rattle.nd110.specs.Calls.{targetNamed, hostViewAnswer, hostView, hostViewed};
 ghost use Rattle.isa.specs.Machine.{stateWords};
@@ -27,10 +27,10 @@ use isa::number::run_number;
 use isa::number::step_number;
 use isa::number::steps_taken;
 use operations::raise::raise;
-use operations::runs::Ran;
+use operations::runs::RunResult;
 use operations::runs::through;
 use operations::runs::to_interrupt;
-use operations::step::Stepped;
+use operations::step::StepResult;
 use operations::step::step;
 use words::copy;
 
@@ -40,13 +40,13 @@ const BAD_CALL: u16 = 255;
 // A state, to the lent words in image order: 128 registers, then 26 control words.
 fn put_state(s: State, words: &mut [u16])
     requires { ⌜ length (now words) ≡ stateWords ⌝ }
-    ensures { λ _. ⌜ now (words .exit) ≡ wordsOf s ⌝ }
+    ensures { λ _. ⌜ now (words .exit) ≡ stateOrdered s ⌝ }
 {
     image_write::put_state(s, words, 0);
 }
 
 // What a step answered, to the lent words.
-fn tell_step(r: Stepped, state: &mut [u16], interrupt: &mut u16) -> u16
+fn tell_step(r: StepResult, state: &mut [u16], interrupt: &mut u16) -> u16
     requires { ⌜ length (now state) ≡ stateWords ⌝ }
     ensures { λ n. ⌜ ((m t : List ℕ)
         → leftOf n (now (state .exit)) m t (now (interrupt .exit) ∷ [])
@@ -92,7 +92,7 @@ fn reason_given(a: RunAnswer) -> u16
 }
 
 // What a run answered, to the lent words.
-fn tell(r: Ran, state: &mut [u16], steps: &mut u64, reason: &mut u16) -> u16
+fn tell(r: RunResult, state: &mut [u16], steps: &mut u64, reason: &mut u16) -> u16
     requires { ⌜ length (now state) ≡ stateWords ⌝ }
     ensures { λ n. ⌜ ((m t : List ℕ)
         → leftOf n (now (state .exit)) m t (now (steps .exit) ∷ now (reason .exit) ∷ [])
@@ -111,7 +111,7 @@ fn tell(r: Ran, state: &mut [u16], steps: &mut u64, reason: &mut u16) -> u16
 }
 
 // Either run.
-fn run_by(s: State, mem: &mut [u16], tables: &mut [u16], n: u64, first: bool) -> Ran
+fn run_by(s: State, mem: &mut [u16], tables: &mut [u16], n: u64, first: bool) -> RunResult
     ensures { λ r. ⌜ runOf r (now (mem .exit)) (now (tables .exit))
         ≡ runCall first n s (now (mem .entry)) (now (tables .entry)) ⌝ }
 {

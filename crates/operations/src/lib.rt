@@ -5,7 +5,7 @@ ghost use mathlib.Core.Path.{_≡_};
 ghost use Rattle.isa.specs.Answers.{viewAnswer, viewed, writeAnswer, writtenOutput, loadCall};
 ghost use Rattle.isa.specs.Answers.{answerNumbers, loadTold, writeTold, viewTold};
 ghost use Rattle.image_load.specs.Loading.{callOf};
-use image_load::Loaded;
+use image_load::LoadResult;
 use isa::answer::Answer;
 use isa::answer::Target;
 use isa::machine::State;
@@ -17,7 +17,7 @@ pub mod runs;
 pub mod step;
 
 // The machine of an image. Refusals 1, 4 to 8 and 2.
-pub fn load(s: State, image: &[u16], mem: &mut [u16], tables: &mut [u16]) -> Loaded
+pub fn load(s: State, image: &[u16], mem: &mut [u16], tables: &mut [u16]) -> LoadResult
     ensures { λ r. ⌜ callOf r (now (mem .exit)) (now (tables .exit))
         ≡ loadCall s (now (image .entry)) (now (mem .entry)) (now (tables .entry)) ⌝ }
     ensures { λ r. ⌜ answerNumbers (r .answer)

@@ -1,14 +1,14 @@
 // Demand 3 of what is shipped: run to the first interrupt from two memories, side by side.
 ghost use Rattle.operations.specs.Calls.{runOf};
 ghost use Rattle.operations.specs.Pair.{SideBySide};
-use crate::runs::Ran;
+use crate::runs::RunResult;
 use crate::runs::run_by;
 use isa::machine::State;
 
 // What the two runs answer.
 pub struct Pair {
-    pub left: Ran,
-    pub right: Ran,
+    pub left: RunResult,
+    pub right: RunResult,
 }
 
 // Two machines of one state, each with its own lent words: memory and page tables, of which the right one has copies.

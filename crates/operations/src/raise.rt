@@ -10,7 +10,7 @@ use isa::answer::Refusal;
 use isa::machine::State;
 
 // What raise answers, and the state that it leaves.
-pub struct Raised {
+pub struct RaiseResult {
     pub answer: Answer,
     pub state: State,
 }
@@ -31,17 +31,17 @@ fn level_answer(level: u16, a: Answer) -> Answer
 }
 
 // The level's PID bit is set. Refusals 1, 2 and 3.
-pub fn raise(s: State, level: u16, mem: &[u16], tables: &[u16]) -> Raised
+pub fn raise(s: State, level: u16, mem: &[u16], tables: &[u16]) -> RaiseResult
     ensures { λ r. ⌜ raiseOf r ≡ raiseCall s level (now (mem .entry)) (now (tables .entry)) ⌝ }
     ensures { λ r. ⌜ answerNumbers (r .answer) ≡ raiseTold s level (now (mem .entry)) (now (tables .entry)) ⌝ }
 {
     let a = level_answer(level, state_answer(s, mem, tables));
     match a {
-        Answer::Done => Raised {
+        Answer::Done => RaiseResult {
             answer: Answer::Done,
             state: raised(s, level),
         },
-        Answer::Refused(x) => Raised {
+        Answer::Refused(x) => RaiseResult {
             answer: Answer::Refused(x),
             state: s,
         },

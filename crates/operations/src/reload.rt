@@ -8,7 +8,7 @@ use isa::constant::BESIDE_MEMORY;
 use isa::machine::State;
 
 // What write and load answer, and the state of the machine loaded into. A refused write's refusal stands for load's.
-pub struct Reloaded {
+pub struct ReloadResult {
     pub written: Answer,
     pub loaded: Answer,
     pub state: State,
@@ -24,7 +24,7 @@ pub fn write_and_load(
     old: State,
     to: &mut [u16],
     copies: &mut [u16],
-) -> Reloaded
+) -> ReloadResult
     ensures { λ r. ⌜ WrittenAndLoaded s (now (mem .entry)) (now (tables .entry)) (now (out .entry))
         old (now (to .entry)) (now (copies .entry))
         (r .written) (now (out .exit)) (reloadOf r (now (to .exit)) (now (copies .exit))) ⌝ }
@@ -36,13 +36,13 @@ pub fn write_and_load(
             let r = load(old, &out[0..n], to, copies);
             let b = r.answer;
             let after = r.state;
-            Reloaded {
+            ReloadResult {
                 written: Answer::Done,
                 loaded: b,
                 state: after,
             }
         }
-        Answer::Refused(x) => Reloaded {
+        Answer::Refused(x) => ReloadResult {
             written: Answer::Refused(x),
             loaded: Answer::Refused(x),
             state: old,

@@ -10,13 +10,13 @@ use isa::machine::State;
 use run::run;
 
 // What a run answers, and the state that it leaves.
-pub struct Ran {
+pub struct RunResult {
     pub answer: RunAnswer,
     pub state: State,
 }
 
 // Either run: at most n steps, to the first interrupt or through. Refusals 1 and 2.
-pub fn run_by(s: State, mem: &mut [u16], tables: &mut [u16], n: u64, first: bool) -> Ran
+pub fn run_by(s: State, mem: &mut [u16], tables: &mut [u16], n: u64, first: bool) -> RunResult
     ensures { λ r. ⌜ runOf r (now (mem .exit)) (now (tables .exit))
         ≡ runCall first n s (now (mem .entry)) (now (tables .entry)) ⌝ }
     ensures { λ r. ⌜ runNumbers (r .answer) ≡ runTold first n s (now (mem .entry)) (now (tables .entry)) ⌝ }
@@ -27,12 +27,12 @@ pub fn run_by(s: State, mem: &mut [u16], tables: &mut [u16], n: u64, first: bool
             let r = run(s, mem, tables, n, first);
             let after = r.state;
             let reason = r.reason;
-            Ran {
+            RunResult {
                 answer: RunAnswer::Ran(r.steps, reason),
                 state: after,
             }
         }
-        Answer::Refused(x) => Ran {
+        Answer::Refused(x) => RunResult {
             answer: RunAnswer::Refused(x),
             state: s,
         },
@@ -40,7 +40,7 @@ pub fn run_by(s: State, mem: &mut [u16], tables: &mut [u16], n: u64, first: bool
 }
 
 // At most n steps, interrupts and changes of level included.
-pub fn through(s: State, mem: &mut [u16], tables: &mut [u16], n: u64) -> Ran
+pub fn through(s: State, mem: &mut [u16], tables: &mut [u16], n: u64) -> RunResult
     ensures { λ r. ⌜ runOf r (now (mem .exit)) (now (tables .exit))
         ≡ runCall false n s (now (mem .entry)) (now (tables .entry)) ⌝ }
     ensures { λ r. ⌜ runNumbers (r .answer) ≡ runTold false n s (now (mem .entry)) (now (tables .entry)) ⌝ }
@@ -49,7 +49,7 @@ pub fn through(s: State, mem: &mut [u16], tables: &mut [u16], n: u64) -> Ran
 }
 
 // At most n steps, up to the first that gives an interrupt, or before a change of level.
-pub fn to_interrupt(s: State, mem: &mut [u16], tables: &mut [u16], n: u64) -> Ran
+pub fn to_interrupt(s: State, mem: &mut [u16], tables: &mut [u16], n: u64) -> RunResult
     ensures { λ r. ⌜ runOf r (now (mem .exit)) (now (tables .exit))
         ≡ runCall true n s (now (mem .entry)) (now (tables .entry)) ⌝ }
     ensures { λ r. ⌜ runNumbers (r .answer) ≡ runTold true n s (now (mem .entry)) (now (tables .entry)) ⌝ }

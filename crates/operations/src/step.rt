@@ -9,13 +9,13 @@ use isa::machine::State;
 use run::run;
 
 // What a step answers, and the state that it leaves.
-pub struct Stepped {
+pub struct StepResult {
     pub answer: StepAnswer,
     pub state: State,
 }
 
 // Refusals 1 and 2.
-pub fn step(s: State, mem: &mut [u16], tables: &mut [u16]) -> Stepped
+pub fn step(s: State, mem: &mut [u16], tables: &mut [u16]) -> StepResult
     ensures { λ r. ⌜ stepOf r (now (mem .exit)) (now (tables .exit))
         ≡ stepCall s (now (mem .entry)) (now (tables .entry)) ⌝ }
     ensures { λ r. ⌜ stepNumbers (r .answer) ≡ stepTold s (now (mem .entry)) (now (tables .entry)) ⌝ }
@@ -25,12 +25,12 @@ pub fn step(s: State, mem: &mut [u16], tables: &mut [u16]) -> Stepped
         Answer::Done => {
             let r = run(s, mem, tables, 1, false);
             let after = r.state;
-            Stepped {
+            StepResult {
                 answer: StepAnswer::Stepped(r.gave),
                 state: after,
             }
         }
-        Answer::Refused(x) => Stepped {
+        Answer::Refused(x) => StepResult {
             answer: StepAnswer::Refused(x),
             state: s,
         },

@@ -14,8 +14,8 @@ use Rattle.isa.specs.Pages.{Entry, entryOf, entryAt, slotOf, somePermit, needed
 use Rattle.isa.specs.Pages.{inMemory, inTables, withinMemory, judged, tableOf, inWindow, translate, passes, markOf}
 use Rattle.isa.specs.Pages.{marked}
 use Rattle.isa.specs.declared.access.Access.{Access}
-use Rattle.isa.specs.declared.access.Kind.{Kind}
-use Rattle.isa.specs.declared.access.Kind.the-variants.{Fetch, Read, Write, Indirect}
+use Rattle.isa.specs.declared.access.AccessKind.{AccessKind}
+use Rattle.isa.specs.declared.access.AccessKind.the-variants.{Fetch, Read, Write, Indirect}
 use Rattle.isa.specs.declared.access.Rights.{Rights}
 use Rattle.isa.specs.declared.access.Translation.the-variants.{Protection, PageFault, OutOfRange}
 use Rattle.isa.proofs.Tests.{either, decided}
@@ -62,7 +62,7 @@ any-permit e l = go (ℕ-discrete (e / 32768 % 2) 1) (ℕ-discrete (e / 16384 % 
         simp (ne-eqb _ _ p, ne-eqb _ _ q, ne-eqb _ _ r, eq-eqb (e / 8192) 0 (all-zero e l p (both-zero e q r)))
 
 -- an entry with the needed permit has some permit
-needed-some : (e : Entry) (k : Kind) → needed e k ≡ true → somePermit e ≡ true
+needed-some : (e : Entry) (k : AccessKind) → needed e k ≡ true → somePermit e ≡ true
 needed-some e Fetch h = go (e .write) (e .read)
   where
     go : (x y : Bool) → (x || y || e .fetch) ≡ true
@@ -83,7 +83,7 @@ needed-some e Indirect h = go (e .write)
 
 -- ---- the outcomes of the tests by an entry
 
-module _ (e : Entry) (slot words ring : ℕ) (k : Kind) (a : ℕ) where
+module _ (e : Entry) (slot words ring : ℕ) (k : AccessKind) (a : ℕ) where
   pub judged-refused : needed e k ≡ false
       → judged e slot words ring k a
       ≡ cond (not (somePermit e)) (PageFault (pagingStatus k 16384 slot)) (Protection (pagingStatus k 16384 slot))
@@ -104,7 +104,7 @@ module _ (e : Entry) (slot words ring : ℕ) (k : Kind) (a : ℕ) where
       unfolding judged withinMemory
       judged-beyond w = simp (needed-some e k n, n, r, w)
 
-pub memory-passes : (k : Kind) (p : ℕ) → passes (inMemory k p) ≡ true
+pub memory-passes : (k : AccessKind) (p : ℕ) → passes (inMemory k p) ≡ true
 memory-passes Fetch p = refl
 memory-passes Read p = refl
 memory-passes Write p = refl
@@ -151,24 +151,24 @@ module _ (t : List ℕ) (words : ℕ) (r : Rights) (x : Access) where
 
 -- ---- a place lies within the memory, or the tables
 
-memory-within : (words : ℕ) (k : Kind) (p : ℕ) → p < words → Within words (inMemory k p)
+memory-within : (words : ℕ) (k : AccessKind) (p : ℕ) → p < words → Within words (inMemory k p)
 memory-within words Fetch p h = h
 memory-within words Read p h = h
 memory-within words Write p h = h
 memory-within words Indirect p h = h
 
-tables-within : (words : ℕ) (k : Kind) (i : ℕ) → i < 256 → Within words (inTables k i)
+tables-within : (words : ℕ) (k : AccessKind) (i : ℕ) → i < 256 → Within words (inTables k i)
 tables-within words Fetch i h = h
 tables-within words Read i h = h
 tables-within words Write i h = h
 tables-within words Indirect i h = h
 
-pub physical-within : (words : ℕ) (k : Kind) (p : ℕ) → Within words (withinMemory words k p)
+pub physical-within : (words : ℕ) (k : AccessKind) (p : ℕ) → Within words (withinMemory words k p)
 unfolding withinMemory
 physical-within words k p =
     decided (Within words) (ltb p words) (λ h. memory-within words k p (ltb-true p words h)) (λ h. tt)
 
-judged-inside : (e : Entry) (slot words ring : ℕ) (k : Kind) (a : ℕ) → Within words (judged e slot words ring k a)
+judged-inside : (e : Entry) (slot words ring : ℕ) (k : AccessKind) (a : ℕ) → Within words (judged e slot words ring k a)
 unfolding judged
 judged-inside e slot words ring k a =
     either (Within words) (not (somePermit e)) tt

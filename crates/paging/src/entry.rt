@@ -2,18 +2,18 @@
 ghost use mathlib.Core.Path.{_≡_};
 ghost use Prim.Native.Nat.{_<_};
 ghost use Rattle.isa.specs.Pages.{entryOf, needed, somePermit, pagingStatus, markOf, slotOf, tableOf};
-use isa::access::Kind;
+use isa::access::AccessKind;
 use isa::access::Rights;
 
 // Whether the entry has the permit that the kind needs.
-pub fn permitted(e: u16, k: Kind) -> bool
+pub fn permitted(e: u16, k: AccessKind) -> bool
     ensures { λ b. ⌜ b ≡ needed (entryOf e) k ⌝ }
 {
     match k {
-        Kind::Fetch => e / 8192 % 2 == 1,
-        Kind::Read => e / 16384 % 2 == 1,
-        Kind::Write => e / 32768 % 2 == 1,
-        Kind::Indirect => e / 8192 % 4 != 0,
+        AccessKind::Fetch => e / 8192 % 2 == 1,
+        AccessKind::Read => e / 16384 % 2 == 1,
+        AccessKind::Write => e / 32768 % 2 == 1,
+        AccessKind::Indirect => e / 8192 % 4 != 0,
     }
 }
 
@@ -25,28 +25,28 @@ pub fn some_permit(e: u16) -> bool
 }
 
 // PGS after a failed access by the entry at the slot.
-pub fn status(k: Kind, missing: u16, slot: u16) -> u16
+pub fn status(k: AccessKind, missing: u16, slot: u16) -> u16
     requires { ⌜ missing < 16385 ⌝ }
     requires { ⌜ slot < 256 ⌝ }
     ensures { λ n. ⌜ n ≡ pagingStatus k missing slot ⌝ }
 {
     match k {
-        Kind::Fetch => 32768 + missing + slot,
-        Kind::Read => missing + slot,
-        Kind::Write => missing + slot,
-        Kind::Indirect => missing + slot,
+        AccessKind::Fetch => 32768 + missing + slot,
+        AccessKind::Read => missing + slot,
+        AccessKind::Write => missing + slot,
+        AccessKind::Indirect => missing + slot,
     }
 }
 
 // The entry with the marks of a passed access.
-pub fn mark(k: Kind, e: u16) -> u16
+pub fn mark(k: AccessKind, e: u16) -> u16
     ensures { λ n. ⌜ n ≡ markOf k e ⌝ }
 {
     match k {
-        Kind::Fetch => e / 4096 * 4096 + 2048 + e % 2048,
-        Kind::Read => e / 4096 * 4096 + 2048 + e % 2048,
-        Kind::Write => e / 8192 * 8192 + 6144 + e % 2048,
-        Kind::Indirect => e / 4096 * 4096 + 2048 + e % 2048,
+        AccessKind::Fetch => e / 4096 * 4096 + 2048 + e % 2048,
+        AccessKind::Read => e / 4096 * 4096 + 2048 + e % 2048,
+        AccessKind::Write => e / 8192 * 8192 + 6144 + e % 2048,
+        AccessKind::Indirect => e / 4096 * 4096 + 2048 + e % 2048,
     }
 }
 

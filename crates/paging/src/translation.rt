@@ -13,7 +13,7 @@ use crate::entry::permitted;
 use crate::entry::slot_of;
 use crate::entry::some_permit;
 use crate::entry::status;
-use isa::access::Kind;
+use isa::access::AccessKind;
 use isa::access::Rights;
 use isa::access::Translation;
 use isa::constant::PAGE_WORDS;
@@ -23,30 +23,30 @@ use isa::constant::WINDOW_START;
 // The words of the window: all page tables.
 const WINDOW_WORDS: u16 = TABLE_WORDS as u16;
 
-fn in_memory(k: Kind, p: usize) -> Translation
+fn in_memory(k: AccessKind, p: usize) -> Translation
     ensures { λ x. ⌜ x ≡ inMemory k p ⌝ }
 {
     match k {
-        Kind::Fetch => Translation::Load(p),
-        Kind::Read => Translation::Load(p),
-        Kind::Write => Translation::Store(p),
-        Kind::Indirect => Translation::Load(p),
+        AccessKind::Fetch => Translation::Load(p),
+        AccessKind::Read => Translation::Load(p),
+        AccessKind::Write => Translation::Store(p),
+        AccessKind::Indirect => Translation::Load(p),
     }
 }
 
-fn in_tables(k: Kind, i: usize) -> Translation
+fn in_tables(k: AccessKind, i: usize) -> Translation
     ensures { λ x. ⌜ x ≡ inTables k i ⌝ }
 {
     match k {
-        Kind::Fetch => Translation::LoadTable(i),
-        Kind::Read => Translation::LoadTable(i),
-        Kind::Write => Translation::StoreTable(i),
-        Kind::Indirect => Translation::LoadTable(i),
+        AccessKind::Fetch => Translation::LoadTable(i),
+        AccessKind::Read => Translation::LoadTable(i),
+        AccessKind::Write => Translation::StoreTable(i),
+        AccessKind::Indirect => Translation::LoadTable(i),
     }
 }
 
 // The needed permit is missing: no permit at all is a page fault.
-fn refused(e: u16, k: Kind, slot: u16) -> Translation
+fn refused(e: u16, k: AccessKind, slot: u16) -> Translation
     requires { ⌜ slot < 256 ⌝ }
     ensures { λ x. ⌜ x ≡ cond (not (somePermit (entryOf e))) (PageFault (pagingStatus k 16384 slot))
         (Protection (pagingStatus k 16384 slot)) ⌝ }
@@ -59,7 +59,14 @@ fn refused(e: u16, k: Kind, slot: u16) -> Translation
 
 // The access by the entry at the slot, and its mark where it passes. An entry with the needed permit has some permit,
 // so that is asked only where the needed one is missing.
-fn looked_up(tables: &mut [u16], words: usize, ring: u32, k: Kind, slot: u16, a: u16) -> Translation
+fn looked_up(
+    tables: &mut [u16],
+    words: usize,
+    ring: u32,
+    k: AccessKind,
+    slot: u16,
+    a: u16,
+) -> Translation
     requires { ⌜ slot < 256 ⌝ }
     requires { ⌜ length (now tables) ≡ tableWords ⌝ }
     ensures { λ x. ⌜ x ≡ judged (entryAt (now (tables .entry)) slot) slot words ring k a ⌝ }
@@ -96,7 +103,7 @@ fn in_window(r: Rights, a: u16) -> bool
 }
 
 // An access by its physical address.
-pub fn physical(words: usize, k: Kind, p: usize) -> Translation
+pub fn physical(words: usize, k: AccessKind, p: usize) -> Translation
     ensures { λ x. ⌜ x ≡ withinMemory words k p ⌝ }
 {
     if p < words {
@@ -110,7 +117,7 @@ pub fn translate(
     tables: &mut [u16],
     words: usize,
     r: Rights,
-    k: Kind,
+    k: AccessKind,
     alternate: bool,
     a: u16,
 ) -> Translation

@@ -34,8 +34,8 @@ use Rattle.isa.specs.declared.instruction.LogicOp.the-variants.{Swap, Rand, Rex
 use Rattle.isa.specs.declared.instruction.CarryIn.{CarryIn}
 use Rattle.isa.specs.declared.instruction.CarryIn.the-variants.{NoCarry, One, Previous}
 use Rattle.isa.specs.declared.instruction.ShiftKind.{ShiftKind}
-use Rattle.isa.specs.declared.instruction.ShiftTarget.{ShiftTarget}
-use Rattle.isa.specs.declared.instruction.ShiftTarget.the-variants.{Sht, Shd, Sha, Sad}
+use Rattle.isa.specs.declared.instruction.Shiftable.{Shiftable}
+use Rattle.isa.specs.declared.instruction.Shiftable.the-variants.{Sht, Shd, Sha, Sad}
 use Rattle.isa.specs.declared.instruction.Argument.{Argument}
 use Rattle.isa.specs.declared.instruction.Argument.the-variants.{ArgumentB, ArgumentA, ArgumentT, ArgumentX}
 use Rattle.isa.specs.declared.instruction.BitOp.{BitOp}
@@ -194,7 +194,7 @@ shift-double-fits {f} h k n =
     with-word (with-word (flag-fits h 7 _ (omega arith) (s .m)) A refl (omega arith)) D refl (omega arith)
 
 -- the shifts
-shift-fits : {f : File} → FileFits f → (t : ShiftTarget) (k : ShiftKind) (n : ℤ) → FileFits (shifted f t k n)
+shift-fits : {f : File} → FileFits f → (t : Shiftable) (k : ShiftKind) (n : ℤ) → FileFits (shifted f t k n)
 shift-fits h Sht k n = shift-in-fits h T k n refl
 shift-fits h Shd k n = shift-in-fits h D k n refl
 shift-fits h Sha k n = shift-in-fits h A k n refl

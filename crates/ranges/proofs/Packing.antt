@@ -18,8 +18,8 @@ use Rattle.isa.specs.declared.machine.File.{File}
 use Rattle.isa.specs.declared.machine.State.{State}
 use Rattle.isa.specs.declared.machine.Register.{Register}
 use Rattle.isa.specs.declared.machine.Register.the-variants.{Sts, D, P, B, L, A, T, X}
-use Rattle.isa.specs.declared.access.Kind.{Kind}
-use Rattle.isa.specs.declared.access.Kind.the-variants.{Read, Write}
+use Rattle.isa.specs.declared.access.AccessKind.{AccessKind}
+use Rattle.isa.specs.declared.access.AccessKind.the-variants.{Read, Write}
 use Rattle.isa.specs.declared.access.Translation.{Translation}
 use Rattle.isa.specs.declared.answer.Far.{Far}
 use Rattle.isa.specs.declared.answer.Far.the-variants.{Nothing, Call, ReadRegister, WriteRegister, ReadPcr, WritePcr}
@@ -172,10 +172,10 @@ block-loaded-fits {s} h l m r k f =
     (λ e. block-failed-fits h (r .fault) m (r .tables) e f k)
 
 -- a block's tests
-block-tested-fits : (x : Kind) (s : State) (m t : List ℕ) → LentFits m t → LentFits m (blockTested x s m t .tables)
+block-tested-fits : (x : AccessKind) (s : State) (m t : List ℕ) → LentFits m t → LentFits m (blockTested x s m t .tables)
 block-tested-fits x s m t k = tested-fits (blockRequest x s) m t (length m) (rightsOf (coreOf s)) k
 
-block-fault : (x : Kind) (s : State) (m t : List ℕ) → FaultFits (blockTested x s m t .fault)
+block-fault : (x : AccessKind) (s : State) (m t : List ℕ) → FaultFits (blockTested x s m t .fault)
 block-fault x s m t = tested-fault (blockRequest x s) t (length m) (rights-fit (coreOf s))
 
 -- MON's number is a word

@@ -15,8 +15,8 @@ use Rattle.isa.specs.Pages.{markOf, marked, Tested, testAll, wordAt, wordsAt, L
 use Rattle.isa.specs.Step.{faulted}
 use Rattle.isa.specs.declared.machine.Core.{Core}
 use Rattle.isa.specs.declared.access.Access.{Access}
-use Rattle.isa.specs.declared.access.Kind.{Kind}
-use Rattle.isa.specs.declared.access.Kind.the-variants.{Fetch, Read, Write, Indirect}
+use Rattle.isa.specs.declared.access.AccessKind.{AccessKind}
+use Rattle.isa.specs.declared.access.AccessKind.the-variants.{Fetch, Read, Write, Indirect}
 use Rattle.isa.specs.declared.access.Rights.{Rights}
 use Rattle.isa.specs.declared.access.Translation.{Translation}
 use Rattle.isa.specs.declared.access.Translation.the-variants.{NoAccess, Load, Store, LoadTable, StoreTable}
@@ -55,32 +55,32 @@ FaultFits (PageFault g) = PgsFits g
 FaultFits OutOfRange = Unit
 
 -- the permit bit is missing times 16,384
-status-fits : (k : Kind) (missing slot : ℕ) → missing < 2 → slot < 256 → PgsFits (pagingStatus k (missing * 16384) slot)
+status-fits : (k : AccessKind) (missing slot : ℕ) → missing < 2 → slot < 256 → PgsFits (pagingStatus k (missing * 16384) slot)
 status-fits Fetch n slot h l = record { clear = omega arith; word = omega arith }
 status-fits Read n slot h l = record { clear = omega arith; word = omega arith }
 status-fits Write n slot h l = record { clear = omega arith; word = omega arith }
 status-fits Indirect n slot h l = record { clear = omega arith; word = omega arith }
 
 -- an access that passed gives no status: in memory, and in the tables
-in-memory-fits : (k : Kind) (p : ℕ) → FaultFits (inMemory k p)
+in-memory-fits : (k : AccessKind) (p : ℕ) → FaultFits (inMemory k p)
 in-memory-fits Fetch p = tt
 in-memory-fits Read p = tt
 in-memory-fits Write p = tt
 in-memory-fits Indirect p = tt
 
-in-tables-fits : (k : Kind) (i : ℕ) → FaultFits (inTables k i)
+in-tables-fits : (k : AccessKind) (i : ℕ) → FaultFits (inTables k i)
 in-tables-fits Fetch i = tt
 in-tables-fits Read i = tt
 in-tables-fits Write i = tt
 in-tables-fits Indirect i = tt
 
 -- nor does a page beyond the memory
-within-fits : (words : ℕ) (k : Kind) (p : ℕ) → FaultFits (withinMemory words k p)
+within-fits : (words : ℕ) (k : AccessKind) (p : ℕ) → FaultFits (withinMemory words k p)
 unfolding withinMemory
 within-fits words k p = either FaultFits (ltb p words) (in-memory-fits k p) tt
 
 -- by an entry
-judged-fits : (e : Entry) (slot words ring : ℕ) (k : Kind) (a : ℕ) → slot < 256
+judged-fits : (e : Entry) (slot words ring : ℕ) (k : AccessKind) (a : ℕ) → slot < 256
     → FaultFits (judged e slot words ring k a)
 unfolding judged
 judged-fits e slot words ring k a h =
@@ -135,7 +135,7 @@ faulted-fits x {c} e f q =
 
 -- what a mark keeps of the tables, the tests of an instruction's accesses keep
 module _ (K : List ℕ → Type 0)
-    (mark : (t : List ℕ) (i : ℕ) (k : Kind) → K t → K (set t i (markOf k (getD t i 0)))) where
+    (mark : (t : List ℕ) (i : ℕ) (k : AccessKind) → K t → K (set t i (markOf k (getD t i 0)))) where
   pub marked-keeps : (t : List ℕ) (words : ℕ) (r : Rights) (x : Access) → K t → K (marked t words r x)
   unfolding marked
   marked-keeps t words r x h =
@@ -158,14 +158,14 @@ tested-fault (x ∷ xs) t words {r} h =
     (translated-fits t words h x)
 
 -- a marked entry is a word
-mark-word : (k : Kind) (e : ℕ) → e < 65536 → markOf k e < 65536
+mark-word : (k : AccessKind) (e : ℕ) → e < 65536 → markOf k e < 65536
 mark-word Fetch e h = omega arith
 mark-word Read e h = omega arith
 mark-word Write e h = omega arith
 mark-word Indirect e h = omega arith
 
 -- .. so marked tables are words
-mark-words : (t : List ℕ) (i : ℕ) (k : Kind) → Words t → Words (set t i (markOf k (getD t i 0)))
+mark-words : (t : List ℕ) (i : ℕ) (k : AccessKind) → Words t → Words (set t i (markOf k (getD t i 0)))
 mark-words t i k h = set-words t i (markOf k (getD t i 0)) h (mark-word k (getD t i 0) (h i))
 
 -- ---- stores

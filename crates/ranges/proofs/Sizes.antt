@@ -22,8 +22,8 @@ use Rattle.isa.specs.declared.instruction.System.the-variants.{Lrb, Exam, Depo,
 use Rattle.isa.specs.declared.instruction.Instruction.{Instruction}
 use Rattle.isa.specs.declared.instruction.Instruction.the-variants.{Unprivileged, Privileged, Execute, Monitor, Illegal}
 use Rattle.isa.specs.declared.access.Access.{Access}
-use Rattle.isa.specs.declared.access.Kind.{Kind}
-use Rattle.isa.specs.declared.access.Kind.the-variants.{Read, Write}
+use Rattle.isa.specs.declared.access.AccessKind.{AccessKind}
+use Rattle.isa.specs.declared.access.AccessKind.the-variants.{Read, Write}
 use Rattle.isa.specs.declared.access.Rights.{Rights}
 use Rattle.isa.specs.declared.access.Translation.{Translation}
 use Rattle.isa.specs.declared.answer.Far.{Far}
@@ -42,7 +42,7 @@ set-long : (n : ℕ) (l : List ℕ) (i v : ℕ) → Long n l → Unit {0} → Lo
 set-long n l i v h u = length-set l i v ∙ h
 
 -- .. and after a mark
-mark-long : (n : ℕ) (l : List ℕ) (i : ℕ) (x : Kind) → Long n l → Long n (set l i (markOf x (getD l i 0)))
+mark-long : (n : ℕ) (l : List ℕ) (i : ℕ) (x : AccessKind) → Long n l → Long n (set l i (markOf x (getD l i 0)))
 mark-long n l i x h = set-long n l i (markOf x (getD l i 0)) h tt
 
 -- memory of j words and tables of k
@@ -162,7 +162,7 @@ module _ (j k : ℕ) where
   -- ---- what leaves the level
 
   -- a block's tests
-  block-size : (x : Kind) (s : State) (m t : List ℕ) → Sized j k m t → Sized j k m (blockTested x s m t .tables)
+  block-size : (x : AccessKind) (s : State) (m t : List ℕ) → Sized j k m t → Sized j k m (blockTested x s m t .tables)
   block-size x s m t h = tested-size (blockRequest x s) m t (length m) (rightsOf (coreOf s)) h
 
   -- SRB

@@ -9,14 +9,14 @@ use native.Mathlib.Nat.{div-add-mod'}
 use lib.ListN.{drop, length, replicate, length-append, length-replicate, drop-of-length-le}
 use lib.Seq.{paste, take-at, drop-at}
 use Rattle.isa.specs.Machine.{controlWords}
-use Rattle.isa.specs.Images.{Entry, entryCount, contents, bodies, placed, loadedWords, imageOf}
+use Rattle.isa.specs.Images.{ImageEntry, entryCount, contents, bodies, placed, loadedWords, imageOf}
 use Rattle.isa.specs.declared.machine.State.{State}
 
 -- a full entry of a kind
-abbrev pub full : ℕ → ℕ → Entry
+abbrev pub full : ℕ → ℕ → ImageEntry
 full k n = record { kind = k; start = 0; count = n }
 
-abbrev pub four : ℕ → List Entry
+abbrev pub four : ℕ → List ImageEntry
 four n = full 1 n ∷ full 2 128 ∷ full 3 26 ∷ full 4 256 ∷ []
 
 -- a body that fills its target replaces it
@@ -66,7 +66,7 @@ module _ (s : State) (m t : List ℕ) where
         ≡ placed k (four (length m)) (m ++ afterMemory) (replicate size 0)
     unfolding loadedWords
     by-four k size =
-        ap (λ (es : List Entry). placed k es (bodies (imageOf s m t)) (replicate size 0)) contents-four
+        ap (λ (es : List ImageEntry). placed k es (bodies (imageOf s m t)) (replicate size 0)) contents-four
         ∙ ap (λ (b : List ℕ). placed k (four (length m)) b (replicate size 0)) bodies-all
 
     dropped-memory : drop (length m) (m ++ afterMemory) ≡ afterMemory

@@ -20,7 +20,7 @@ use Rattle.levels.proofs.Changes.{due-pack}
 use Rattle.run_level.specs.Bursts.{goesOn}
 use Rattle.run_slice.specs.Advances.{Advance}
 use Rattle.run.specs.Runs.{reasonAtRest}
-use Rattle.run.specs.declared.machine.Ran.{Ran}
+use Rattle.run.specs.declared.machine.LoopEnd.{LoopEnd}
 
 -- a run of n steps from s stands at r, behind k of them
 pub record Going (first : Bool) (n : ℕ) (s : State) (m t : List ℕ) (k : ℕ) (r : Turn) : Type 0 where
@@ -35,7 +35,7 @@ Ended first n s m t w k r =
     (ended w k (r .state) (r .memory) (r .tables) ≡ runFrom first n 0 s m t) × (n ≡ 1 → first ≡ false → r ≡ step s m t)
 
 -- what run_in answers
-abbrev pub Answered : ℕ → Bool → State → List ℕ → List ℕ → List ℕ → List ℕ → List ℕ → List ℕ → Ran → Type 0
+abbrev pub Answered : ℕ → Bool → State → List ℕ → List ℕ → List ℕ → List ℕ → List ℕ → List ℕ → LoopEnd → Type 0
 Answered n first s m t regs pcrs m' t' r =
     (r .level < 16) × Ended first n s m t (r .reason) (r .steps)
     (turn (pack (r .level) (r .core) regs pcrs) (r .gave) m' t')

@@ -9,10 +9,10 @@ use Rattle.isa.specs.declared.machine.Control.{Control}
 use Rattle.isa.specs.declared.answer.Reason.{Reason}
 use Rattle.isa.specs.declared.answer.Reason.the-variants.{Stopped, Level, Spent}
 use Rattle.levels.specs.Changes.{dueAt}
-use Rattle.run.specs.declared.machine.Ran.{Ran}
+use Rattle.run.specs.declared.machine.LoopEnd.{LoopEnd}
 
 -- what a run leaves
-abbrev pub runOf : Ran → List ℕ → List ℕ → List ℕ → List ℕ → Run
+abbrev pub runOf : LoopEnd → List ℕ → List ℕ → List ℕ → List ℕ → Run
 runOf r regs pcrs m t = ended (r .reason) (r .steps) (pack (r .level) (r .core) regs pcrs) m t
 
 -- why a run that has no step left ends

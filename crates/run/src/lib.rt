@@ -15,7 +15,7 @@ use levels::opened;
 mod machine;
 
 // The machine after a run, the steps taken, the interrupt that the last of them gave, or 0, and why the run ended.
-pub struct Outcome {
+pub struct RunEnd {
     pub state: State,
     pub steps: u64,
     pub gave: u16,
@@ -23,7 +23,7 @@ pub struct Outcome {
 }
 
 // At most n steps, through or to the first interrupt. A run through of one step is the step.
-pub fn run(s: State, mem: &mut [u16], tables: &mut [u16], n: u64, first: bool) -> Outcome
+pub fn run(s: State, mem: &mut [u16], tables: &mut [u16], n: u64, first: bool) -> RunEnd
     requires { ⌜ s .level < levelCount ⌝ }
     requires { ⌜ length (now tables) ≡ tableWords ⌝ }
     ensures { λ r. ⌜ ended (r .reason) (r .steps) (r .state) (now (mem .exit)) (now (tables .exit))
@@ -46,7 +46,7 @@ pub fn run(s: State, mem: &mut [u16], tables: &mut [u16], n: u64, first: bool) -
     );
     let c = r.core;
     let reason = r.reason;
-    Outcome {
+    RunEnd {
         state: closed(r.level, c, regs, pcrs),
         steps: r.steps,
         gave: r.gave,

@@ -17,7 +17,7 @@ use levels::change::change_due;
 use run_slice::advance;
 
 // The running level, its words, the steps taken, the interrupt that the last of them gave, or 0, and why the run ended.
-pub struct Ran {
+pub struct LoopEnd {
     pub level: u16,
     pub core: Core,
     pub steps: u64,
@@ -25,10 +25,10 @@ pub struct Ran {
     pub reason: Reason,
 }
 
-fn ended(level: u16, core: Core, steps: u64, gave: u16, reason: Reason) -> Ran
+fn ended(level: u16, core: Core, steps: u64, gave: u16, reason: Reason) -> LoopEnd
     ensures { λ r. ⌜ r ≡ record { level = level; core = core; steps = steps; gave = gave; reason = reason } ⌝ }
 {
-    Ran {
+    LoopEnd {
         level: level,
         core: core,
         steps: steps,
@@ -81,7 +81,7 @@ pub fn run_in(
     tables: &mut [u16],
     n: u64,
     first: bool,
-) -> Ran
+) -> LoopEnd
     requires { ⌜ start < levelCount ⌝ }
     requires { ⌜ (length (now regs) ≡ registerWords) × (length (now pcrs) ≡ levelCount) ⌝ }
     requires { ⌜ length (now tables) ≡ tableWords ⌝ }

@@ -6,8 +6,8 @@ use mathlib.Core.Path.{_≡_, refl, sym, subst}
 use mathlib.Core.Bool.{Bool, true, false}
 use lib.Dec.{ltb}
 use Rattle.isa.specs.Pages.{inMemory, withinMemory, faultOf, passes}
-use Rattle.isa.specs.declared.access.Kind.{Kind}
-use Rattle.isa.specs.declared.access.Kind.the-variants.{Fetch, Read, Write, Indirect}
+use Rattle.isa.specs.declared.access.AccessKind.{AccessKind}
+use Rattle.isa.specs.declared.access.AccessKind.the-variants.{Fetch, Read, Write, Indirect}
 use Rattle.isa.specs.declared.access.Translation.{Translation}
 use Rattle.isa.specs.declared.access.Translation.the-variants.{NoAccess, Load, Store, LoadTable, StoreTable}
 use Rattle.isa.specs.declared.access.Translation.the-variants.{Protection, PageFault, OutOfRange}
@@ -26,7 +26,7 @@ fault-small (PageFault g) = omega arith
 fault-small OutOfRange = omega arith
 
 -- an access by a physical address: it lies within the memory, where it passed, and past it, where it failed
-module _ (words : ℕ) (k : Kind) (p : ℕ) {x : Translation} (e : x ≡ withinMemory words k p) where
+module _ (words : ℕ) (k : AccessKind) (p : ℕ) {x : Translation} (e : x ≡ withinMemory words k p) where
   pub place-within : Within words x
   place-within = subst (Within words) (sym e) (physical-within words k p)
 
@@ -42,7 +42,7 @@ module _ (words : ℕ) (k : Kind) (p : ℕ) {x : Translation} (e : x ≡ withinM
   unfolding withinMemory
   past-memory h = go (ltb p words) refl
     where
-      passed : (j : Kind) → passes (inMemory j p) ≡ false → false ≡ true
+      passed : (j : AccessKind) → passes (inMemory j p) ≡ false → false ≡ true
       passed Fetch q = sym q
       passed Read q = sym q
       passed Write q = sym q

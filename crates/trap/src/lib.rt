@@ -11,7 +11,7 @@ ghost use Rattle.trap.specs.Parts.{partOf};
 use control::instruction::controlled;
 use control::interrupt::gives;
 use event::Event;
-use isa::access::Kind;
+use isa::access::AccessKind;
 use isa::access::Translation;
 use isa::answer::Far;
 use isa::answer::Near;
@@ -78,7 +78,7 @@ fn examined(c: Core, mem: &[u16], tables: &[u16]) -> Near
     requires { ⌜ length (now tables) ≡ tableWords ⌝ }
     ensures { λ n. ⌜ ((t : List ℕ) → partOf n (now (mem .entry)) t ≡ examined c (now (mem .entry)) t) ⌝ }
 {
-    let x = physical(mem.len(), Kind::Read, physical_address(c));
+    let x = physical(mem.len(), AccessKind::Read, physical_address(c));
     if fault_of(x) == 0 {
         let f = c.file;
         let g = f.with(Register::T, word_at(mem, tables, x));
@@ -92,7 +92,7 @@ fn deposited(c: Core, mem: &mut [u16], tables: &mut [u16]) -> Near
     ensures { λ n. ⌜ partOf n (now (mem .exit)) (now (tables .exit))
         ≡ deposited c (now (mem .entry)) (now (tables .entry)) ⌝ }
 {
-    let x = physical(mem.len(), Kind::Write, physical_address(c));
+    let x = physical(mem.len(), AccessKind::Write, physical_address(c));
     if fault_of(x) == 0 {
         let f = c.file;
         store_at(mem, tables, x, f.get(Register::T));

@@ -14,16 +14,16 @@ use Rattle.isa.specs.Answers.{LoadCall, loadCall}
 use Rattle.isa.specs.declared.answer.Answer.{Answer}
 use Rattle.isa.specs.declared.machine.State.{State}
 use Rattle.image_load.specs.Loading.{callOf}
-use Rattle.image_load.specs.declared.Loaded.{Loaded}
+use Rattle.image_load.specs.declared.LoadResult.{LoadResult}
 use Rattle.turn_text.specs.Turn.{loadedBy, clearedState, imageTurned}
-use Rattle.turn_text.specs.Bytes.{wordsOf}
+use Rattle.turn_text.specs.Bytes.{bytesAsWords}
 use Rattle.io.specs.Digits.{glyph, digits, Fewest}
 use Rattle.turn_text.specs.Text.{decimalBefore, decimal, octal, line, registerLines}
 
 -- ---- words
 
-pub words-length : (bs : List ℕ) → length (wordsOf bs) ≡ length bs / 2
-unfolding wordsOf
+pub words-length : (bs : List ℕ) → length (bytesAsWords bs) ≡ length bs / 2
+unfolding bytesAsWords
 words-length [] = refl
 words-length (h ∷ []) = refl
 words-length (h ∷ l ∷ bs) =
@@ -31,8 +31,8 @@ words-length (h ∷ l ∷ bs) =
     ap suc (words-length bs) ∙ e
 
 pub word-at : (bs : List ℕ) (i : ℕ) → i * 2 + 1 < length bs
-    → getD (wordsOf bs) i 0 ≡ getD bs (i * 2) 0 * 256 + getD bs (i * 2 + 1) 0
-unfolding wordsOf
+    → getD (bytesAsWords bs) i 0 ≡ getD bs (i * 2) 0 * 256 + getD bs (i * 2 + 1) 0
+unfolding bytesAsWords
 word-at [] i h = absurd (omega arith)
 word-at (x ∷ []) i h = absurd (omega arith)
 word-at (x ∷ y ∷ bs) zero h = refl
@@ -45,18 +45,18 @@ word-at (x ∷ y ∷ bs) (suc i) h =
     ∙ ap (λ (k : ℕ). getD b (suc (suc (i * 2))) 0 * 256 + getD b k 0) f)
 
 -- one more word
-pub word-more : (bs ws : List ℕ) (i : ℕ) → take i ws ≡ take i (wordsOf bs) → i < length bs / 2
+pub word-more : (bs ws : List ℕ) (i : ℕ) → take i ws ≡ take i (bytesAsWords bs) → i < length bs / 2
     → length bs / 2 ≤ length ws
-    → take (i + 1) (set ws i (getD bs (i * 2) 0 * 256 + getD bs (i * 2 + 1) 0)) ≡ take (i + 1) (wordsOf bs)
+    → take (i + 1) (set ws i (getD bs (i * 2) 0 * 256 + getD bs (i * 2 + 1) 0)) ≡ take (i + 1) (bytesAsWords bs)
 word-more bs ws i e h r =
     let v = getD bs (i * 2) 0 * 256 + getD bs (i * 2 + 1) 0 in
-    let n : i < length (wordsOf bs) = simp (words-length bs) h in
+    let n : i < length (bytesAsWords bs) = simp (words-length bs) h in
     ap (λ (k : ℕ). take k (set ws i v)) (add-one i)
     ∙ take-suc-set ws i v (omega arith)
     ∙ ap (λ (x : List ℕ). x ++ (v ∷ [])) e
-    ∙ ap (λ (x : ℕ). take i (wordsOf bs) ++ (x ∷ [])) (sym (word-at bs i (omega arith)))
-    ∙ sym (take-suc (wordsOf bs) i 0 n)
-    ∙ ap (λ (k : ℕ). take k (wordsOf bs)) (sym (add-one i))
+    ∙ ap (λ (x : ℕ). take i (bytesAsWords bs) ++ (x ∷ [])) (sym (word-at bs i (omega arith)))
+    ∙ sym (take-suc (bytesAsWords bs) i 0 n)
+    ∙ ap (λ (k : ℕ). take k (bytesAsWords bs)) (sym (add-one i))
 
 -- ---- bytes put after a text
 
@@ -147,7 +147,7 @@ lines-all all text names words i h e =
 -- ---- an image loaded
 
 -- what load answers and leaves decides
-pub loaded-by : (r : Loaded) (m′ t′ i m t : List ℕ) (a : Answer) (s : State) → r .answer ≡ a
+pub loaded-by : (r : LoadResult) (m′ t′ i m t : List ℕ) (a : Answer) (s : State) → r .answer ≡ a
     → callOf r m′ t′ ≡ loadCall s i m t → s ≡ clearedState
     → loadedBy a (callOf r m′ t′) ≡ imageTurned i m t
 unfolding imageTurned

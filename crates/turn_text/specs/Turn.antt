@@ -14,7 +14,7 @@ use Rattle.isa.specs.declared.answer.Answer.{Answer}
 use Rattle.isa.specs.declared.answer.Answer.the-variants.{Done, Refused as AnswerRefused}
 use Rattle.isa.specs.declared.answer.RunAnswer.{RunAnswer}
 use Rattle.isa.specs.declared.answer.RunAnswer.the-variants.{Ran, Refused as RunRefused}
-use Rattle.turn_text.specs.Bytes.{wordsOf}
+use Rattle.turn_text.specs.Bytes.{bytesAsWords}
 use Rattle.turn_text.specs.declared.End.{End}
 use Rattle.turn_text.specs.declared.Turned.{Turned}
 use Rattle.turn_text.specs.declared.Turned.the-variants.{Refused, Ended}
@@ -57,4 +57,4 @@ unfoldable pub turned : List ℕ → Turned
 turned bytes =
     cond (ltb 65536 (length bytes)) (Refused Bodies)
     (cond (not (eqb (length bytes % 2) 0)) (Refused Bodies)
-    (imageTurned (wordsOf bytes) (replicate 16384 0) (replicate 256 0)))
+    (imageTurned (bytesAsWords bytes) (replicate 16384 0) (replicate 256 0)))

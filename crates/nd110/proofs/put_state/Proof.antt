@@ -6,7 +6,7 @@ use native.Mathlib.Omega.{arith}
 use lib.ListN.{length, length-map, length-append}
 use Rattle.isa.specs.Machine.{controlWords}
 use Rattle.image_load.proofs.Placed.{copied-rest}
-use Rattle.nd110.specs.Calls.{wordsOf}
+use Rattle.nd110.specs.Calls.{stateOrdered}
 use borrow.Author.Needs.{needs}
 use Rattle.nd110.proofs.put_state.Statement.{statement}
 use Rattle.nd110.proofs.put_state.Tie as tie
@@ -24,8 +24,8 @@ returns c =
     let s = k .args .s in
     let regs : length (s .regs) ≡ registerWords = sym (length-map (s .regs) _) ∙ k .good .0 .1 .1 .0 .1 .0 .1 in
     let pcrs : length (s .pcr) ≡ levelCount = sym (length-map (s .pcr) _) ∙ k .good .0 .1 .1 .1 .1 .1 .0 .1 .0 .1 in
-    let all : length (wordsOf s) ≡ 154 = length-append (s .regs) (controlWords s) ∙ omega (arith, regs, pcrs) in
-    putting .put-state .ensures ∙ copied-rest 0 154 (wordsOf s) (k .args .words .now) all (k .pre)
+    let all : length (stateOrdered s) ≡ 154 = length-append (s .regs) (controlWords s) ∙ omega (arith, regs, pcrs) in
+    putting .put-state .ensures ∙ copied-rest 0 154 (stateOrdered s) (k .args .words .now) all (k .pre)
 
 pub put-state-spec : {M : Type 1} → statement M
 put-state-spec = tie.close (tie.spec put-state-requires same-length returns)

@@ -4,7 +4,7 @@ use mathlib.Core.Path.{_≡_, ap, _∙_}
 use lib.ListN.{length}
 use Rattle.isa.specs.Pages.{withinMemory, Lent}
 use Rattle.isa.specs.Step.{part, physicalAddress, deposited}
-use Rattle.isa.specs.declared.access.Kind.the-variants.{Write}
+use Rattle.isa.specs.declared.access.AccessKind.the-variants.{Write}
 use Rattle.isa.specs.declared.answer.Far.the-variants.{Nothing}
 use Rattle.paging.proofs.Outcomes.{passes-zero, fails-other}
 use Rattle.trap.proofs.Laws.{place-within, in-memory, past-memory}

@@ -4,7 +4,7 @@ use mathlib.Core.Path.{_≡_, ap, _∙_}
 use lib.ListN.{length}
 use Rattle.isa.specs.Pages.{withinMemory}
 use Rattle.isa.specs.Step.{physicalAddress, examined}
-use Rattle.isa.specs.declared.access.Kind.the-variants.{Read}
+use Rattle.isa.specs.declared.access.AccessKind.the-variants.{Read}
 use Rattle.paging.proofs.Outcomes.{passes-zero, fails-other}
 use Rattle.trap.proofs.Laws.{place-within, in-memory, past-memory}
 use borrow.Author.Needs.{needs}

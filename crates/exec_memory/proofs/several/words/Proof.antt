@@ -7,7 +7,7 @@ use lib.ListN.{length}
 use Rattle.isa.specs.Instructions.{loads}
 use Rattle.isa.specs.Pages.{wordsAt, storeAll, passes}
 use Rattle.exec_address.specs.Requests.{wordsLoaded}
-use Rattle.operand_words.specs.Accesses.{placesOf, severalWords}
+use Rattle.memory_words.specs.Accesses.{placesOf, severalWords}
 use Rattle.exec_address.specs.declared.request.Request.the-variants.{Several}
 use Rattle.paging.specs.Outcome.{Outcome}
 use Rattle.paging.proofs.Outcomes.{passes-zero, fails-other}

@@ -1,7 +1,7 @@
 -- The access fails, or passes and the word is read.
 -- Assumes nothing.
 use mathlib.Core.Path.{refl, ap, _∙_}
-use Rattle.isa.specs.declared.access.Kind.the-variants as kinds
+use Rattle.isa.specs.declared.access.AccessKind.the-variants as kinds
 use Rattle.isa.specs.Instructions.{loads}
 use Rattle.exec_address.specs.Requests.{loadedBy}
 use Rattle.exec_address.specs.declared.request.Request.the-variants.{Read}

@@ -1,7 +1,7 @@
 -- The access fails, or passes and the word is stored.
 -- Assumes nothing.
 use mathlib.Core.Path.{refl, _∙_}
-use Rattle.isa.specs.declared.access.Kind.the-variants as kinds
+use Rattle.isa.specs.declared.access.AccessKind.the-variants as kinds
 use Rattle.exec_address.specs.declared.request.Request.the-variants.{Write}
 use Rattle.paging.proofs.Outcomes.{found-by, found-within}
 use Rattle.exec_memory.proofs.RequestLaws.{FoundAt, access-fails, one-passed, stores}

@@ -32,14 +32,14 @@ returns c =
 enum-told : tie.Need-enum-told
 enum-told c = search needs
 
-byte-operand-requires : tie.Need-byte-operand-requires
-byte-operand-requires c κs = search needs
+byte-location-requires : tie.Need-byte-location-requires
+byte-location-requires c κs = search needs
 
 read-word-requires : tie.Need-read-word-requires
 read-word-requires c κs =
     let matched = c .before .before .before .before in
     let start = matched .before .before .before .before in
-    (rw (c .byte-operand .ensures) (start .pre .0), start .pre .1)
+    (rw (c .byte-location .ensures) (start .pre .0), start .pre .1)
 
 same-length-3 : tie.Need-same-length-3
 same-length-3 c = search needs
@@ -54,21 +54,21 @@ returns-2 c =
     let told = found .before .before .before in
     let matched = told .before .before .before .before in
     let a = matched .before .args in
-    byte-read (a .f) (a .mem .now) (a .tables .now) (a .at) (a .r) (found .byte-operand .ensures) _ _ _
+    byte-read (a .f) (a .mem .now) (a .tables .now) (a .at) (a .r) (found .byte-location .ensures) _ _ _
     (told .enum-told .given .1) (c .before .before .read-word .ensures)
 
 enum-told-2 : tie.Need-enum-told-2
 enum-told-2 c = search needs
 
-byte-operand-requires-2 : tie.Need-byte-operand-requires-2
-byte-operand-requires-2 c κs = search needs
+byte-location-requires-2 : tie.Need-byte-location-requires-2
+byte-location-requires-2 c κs = search needs
 
 put-byte-requires : tie.Need-put-byte-requires
 put-byte-requires c κs =
     let matched = c .before .before .before .before in
     let other = matched .before .before .before .before in
     let start = other .before in
-    (rw (c .byte-operand2 .ensures) (start .pre .0), start .pre .1)
+    (rw (c .byte-location2 .ensures) (start .pre .0), start .pre .1)
 
 same-length-5 : tie.Need-same-length-5
 same-length-5 c = search needs
@@ -83,7 +83,7 @@ returns-3 c =
     let told = stored .before .before .before .before in
     let matched = told .before .before .before .before in
     let a = matched .before .before .args in
-    byte-put (a .f) (a .mem .now) (a .tables .now) (a .at) (a .r) (stored .before .byte-operand2 .ensures) _ _ _
+    byte-put (a .f) (a .mem .now) (a .tables .now) (a .at) (a .r) (stored .before .byte-location2 .ensures) _ _ _
     (told .enum-told2 .given .1) (stored .put-byte .ensures)
 
 complete-requires : tie.Need-complete-requires
@@ -107,13 +107,13 @@ user-stage-spec =
     same-length-2
     returns
     enum-told
-    byte-operand-requires
+    byte-location-requires
     read-word-requires
     same-length-3
     same-length-4
     returns-2
     enum-told-2
-    byte-operand-requires-2
+    byte-location-requires-2
     put-byte-requires
     same-length-5
     same-length-6

@@ -4,7 +4,7 @@ use mathlib.Core.Path.{ap, _∙_}
 use borrow.Author.Needs.{needs}
 use Rattle.image_directory.specs.Listing.{seenOf, entryAnswer}
 use Rattle.checks.specs.Answers.{firstOf}
-use Rattle.isa.specs.Images.{Entry}
+use Rattle.isa.specs.Images.{ImageEntry}
 use Rattle.image_directory.proofs.refusal.entry_answer.Statement.{statement}
 use Rattle.image_directory.proofs.refusal.entry_answer.Tie as tie
 
@@ -26,7 +26,7 @@ returns c =
     let a = at-entry-at .before .before .args in
     c .first .ensures
     ∙ (λ i. firstOf (c .before .before .target-answer .ensures i) (c .before .overlap-answer .ensures i))
-    ∙ ap (λ (x : Entry). entryAnswer (a .words) (seenOf (a .k) (a .image .now)) x) (at-entry-at .entry-at .ensures)
+    ∙ ap (λ (x : ImageEntry). entryAnswer (a .words) (seenOf (a .k) (a .image .now)) x) (at-entry-at .entry-at .ensures)
 
 pub entry-answer-spec : {M : Type 1} → statement M
 entry-answer-spec =

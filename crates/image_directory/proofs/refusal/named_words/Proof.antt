@@ -6,7 +6,7 @@ use native.Mathlib.Omega.{arith}
 use borrow.Author.Needs.{needs}
 use Rattle.image_directory.proofs.Entries.{named-next, named-end, rest-start}
 use Rattle.image_directory.specs.Entries.{restOf}
-use Rattle.isa.specs.Images.{Entry, namedWords}
+use Rattle.isa.specs.Images.{ImageEntry, namedWords}
 use Rattle.image_directory.proofs.refusal.named_words.Statement.{statement}
 use Rattle.image_directory.proofs.refusal.named_words.Tie as tie
 
@@ -44,7 +44,7 @@ loop-again c =
     let l = at-loop .loop in
     let a = at-loop .before .before .args in
     let q = named-next (l .k) (a .n) (a .image .now) (omega arith) in
-    let p = ap (λ (x : Entry). x .count) (c .before .entry-at .ensures) in
+    let p = ap (λ (x : ImageEntry). x .count) (c .before .entry-at .ensures) in
     (omega (arith, l .inv .0, c .wide .ensures .0), (omega arith, omega (arith, c .wide .ensures .1)))
 
 -- no entry is left

@@ -2,7 +2,7 @@
 -- Assumes nothing.
 use mathlib.Core.Path.{refl, _∙_}
 use Rattle.isa.specs.Machine.{pack}
-use Rattle.isa.specs.declared.access.Kind.the-variants.{Read}
+use Rattle.isa.specs.declared.access.AccessKind.the-variants.{Read}
 use Rattle.level_effects.proofs.Laws.{left-at, block-from-memory, not-moved}
 use borrow.Author.Needs.{needs}
 use Rattle.level_effects.proofs.block.block_loaded.Statement.{statement}

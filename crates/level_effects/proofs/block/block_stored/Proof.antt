@@ -1,7 +1,7 @@
 -- The words go to memory when all accesses passed; else the fault is the running level's.
 -- Assumes nothing.
 use mathlib.Core.Path.{refl, _∙_}
-use Rattle.isa.specs.declared.access.Kind.the-variants.{Write}
+use Rattle.isa.specs.declared.access.AccessKind.the-variants.{Write}
 use Rattle.level_effects.proofs.Laws.{left-at, block-storing, block-to-memory, not-moved}
 use borrow.Author.Needs.{needs}
 use Rattle.level_effects.proofs.block.block_stored.Statement.{statement}

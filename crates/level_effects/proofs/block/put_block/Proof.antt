@@ -2,7 +2,7 @@
 -- Assumes nothing.
 use mathlib.Core.Path.{sym}
 use Rattle.level_effects.proofs.Laws.{level-block}
-use Rattle.operand_words.specs.Blocks.{listOf}
+use Rattle.memory_words.specs.Blocks.{listOf}
 use borrow.Author.Needs.{needs}
 use Rattle.level_effects.proofs.block.put_block.Statement.{statement}
 use Rattle.level_effects.proofs.block.put_block.Tie as tie

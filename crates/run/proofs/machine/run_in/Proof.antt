@@ -14,7 +14,7 @@ use Rattle.isa.specs.Machine.{levelCount, pack}
 use Rattle.isa.specs.Step.{Turn, turn}
 use Rattle.isa.specs.declared.answer.Reason.{Reason}
 use Rattle.levels.specs.Changes.{dueAt, advancedTurn}
-use Rattle.run.specs.declared.machine.Ran.{Ran}
+use Rattle.run.specs.declared.machine.LoopEnd.{LoopEnd}
 use Rattle.run.proofs.Loops.{Going, Answered, at-start, ends-stopped, ends-level, ends-at-rest, ends-interrupt}
 use Rattle.run.proofs.Loops.{goes-on}
 use Rattle.run.proofs.machine.run_in.Statement.{statement}
@@ -51,7 +51,7 @@ abbrev started : tie.At-loop Inv-loop μ-loop → tie.Start Inv-loop μ-loop
 started c = let lent = c .before .before .before .before in lent .before
 
 -- what a return has to answer to
-abbrev AnsweredFrom : tie.At-loop Inv-loop μ-loop → List ℕ → List ℕ → List ℕ → List ℕ → Ran → Type 0
+abbrev AnsweredFrom : tie.At-loop Inv-loop μ-loop → List ℕ → List ℕ → List ℕ → List ℕ → LoopEnd → Type 0
 AnsweredFrom c =
     let a = started c .args in
     Answered (a .n) (a .first) (pack (a .start) (a .c) (a .regs .now) (a .pcrs .now)) (a .mem .now) (a .tables .now)
@@ -258,7 +258,7 @@ returns-4 : tie.Need-returns-4 Inv-loop μ-loop
 returns-4 c =
     let tested = c .before .before in
     let l = tested .before .loop in
-    let at : Reason → Ran =
+    let at : Reason → LoopEnd =
     λ w. record { level = l .level; core = l .core; steps = l .steps; gave = l .gave; reason = w } in
     subst (AnsweredFrom (tested .before) (l .regs) (l .pcrs) (l .mem) (l .tables)) (sym (c .ended4 .ensures ∙ ap at (c .before .at-rest .ensures)))
     (l .inv .1 .0, ends-at-rest (l .inv .0) (tested .loop-test .left))

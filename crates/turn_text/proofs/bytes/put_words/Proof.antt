@@ -5,7 +5,7 @@ use mathlib.Core.Path.{_≡_, refl, sym, ap, _∙_}
 use native.Mathlib.Omega.{arith}
 use lib.ListN.{length, take, length-set}
 use lib.Seq.{take-all}
-use Rattle.turn_text.specs.Bytes.{wordsOf}
+use Rattle.turn_text.specs.Bytes.{bytesAsWords}
 use Rattle.turn_text.proofs.Laws.{words-length, word-more}
 use borrow.Author.Needs.{needs}
 use Rattle.turn_text.proofs.bytes.put_words.Statement.{statement}
@@ -13,7 +13,7 @@ use Rattle.turn_text.proofs.bytes.put_words.Tie as tie
 
 abbrev Inv-loop : tie.InvT-loop
 Inv-loop bytes words₀ n i₀ words i =
-    (take i words ≡ take i (wordsOf bytes)) × ((i ≤ length bytes / 2) × (length words ≡ length words₀))
+    (take i words ≡ take i (bytesAsWords bytes)) × ((i ≤ length bytes / 2) × (length words ≡ length words₀))
 
 abbrev μ-loop : tie.MeasureT-loop
 μ-loop bytes words₀ n i₀ words i = length bytes / 2 - i
@@ -83,8 +83,8 @@ returns c =
     let l = c .before .loop in
     let a = c .before .before .args in
     let e : l .i ≡ length (a .bytes .now) / 2 = omega arith in
-    let all : length (wordsOf (a .bytes .now)) ≤ l .i = simp (words-length (a .bytes .now)) (omega arith) in
-    (omega arith, ap (λ (k : ℕ). take k (l .words)) (sym e) ∙ l .inv .0 ∙ take-all (l .i) (wordsOf (a .bytes .now)) all)
+    let all : length (bytesAsWords (a .bytes .now)) ≤ l .i = simp (words-length (a .bytes .now)) (omega arith) in
+    (omega arith, ap (λ (k : ℕ). take k (l .words)) (sym e) ∙ l .inv .0 ∙ take-all (l .i) (bytesAsWords (a .bytes .now)) all)
 
 pub put-words-spec : {M : Type 1} → statement M
 put-words-spec =

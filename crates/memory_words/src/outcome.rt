@@ -1,0 +1,22 @@
+// What came of the accesses to two or three words.
+ghost use mathlib.Core.Path.{_≡_};
+ghost use Rattle.memory_words.specs.Accesses.{faultIn};
+use isa::access::Translation;
+
+// The places of accesses that all passed, in order; or the first that failed.
+pub enum Places {
+    Two(Translation, Translation),
+    Three(Translation, Translation, Translation),
+    Fault(Translation),
+}
+
+// The access that failed, if one did.
+pub fn fault_in(p: Places) -> Translation
+    ensures { λ x. ⌜ x ≡ faultIn p ⌝ }
+{
+    match p {
+        Places::Two(_, _) => Translation::NoAccess,
+        Places::Three(_, _, _) => Translation::NoAccess,
+        Places::Fault(x) => x,
+    }
+}
