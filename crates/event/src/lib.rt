@@ -7,8 +7,8 @@ use isa::access::Translation;
 use isa::instruction::System;
 use isa::machine::File;
 
-// Well; by an access that failed; with the error interrupt, 5; with a privileged instruction, on a ring that may execute
-// it or on one that may not (6); with MON; or with an illegal code.
+// Well; by an access that failed; with the error interrupt, 5; with a privileged instruction, on a ring that may
+// execute it or on one that may not (6); with MON; or with an illegal code.
 pub enum Event {
     Fine,
     Failed(Translation),

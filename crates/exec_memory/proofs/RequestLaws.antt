@@ -115,7 +115,8 @@ loads-all : (xs : List Access) → AllRead xs → (t : List ℕ) (words : ℕ) (
     → AllLoadOnly (testAll t words r xs .places)
 loads-all [] h t words r = tt
 loads-all (x ∷ xs) h t words r =
-    let read = subst (λ (k : AccessKind). LoadOnly (translate t words r (access k (x .alternate) (x .address)))) (sym (h .0))
+    let read = subst (λ (k : AccessKind). LoadOnly (translate t words r (access k (x .alternate) (x .address))))
+    (sym (h .0))
     (read-loads t words r (x .alternate) (x .address)) in
     either (λ (i : Tested). AllLoadOnly (i .places)) (passes (translate t words r x))
     (read, loads-all xs (h .1) (marked t words r x) words r) tt

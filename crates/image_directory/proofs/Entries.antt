@@ -105,7 +105,8 @@ named-next k n i h = ap namedWords (rest-next k n i h)
 pub named-less : (k n c : ℕ) (i : List ℕ) (e : ImageEntry) → k < n → e ≡ entryAt k i → c ≡ e .count
     → namedWords (restOf k n i) ≡ c + namedWords (restOf (k + 1) n i)
 named-less k n c i e h q p =
-    named-next k n i h ∙ ap (λ (x : ℕ). x + namedWords (restOf (k + 1) n i)) (sym (p ∙ ap (λ (x : ImageEntry). x .count) q))
+    named-next k n i h
+    ∙ ap (λ (x : ℕ). x + namedWords (restOf (k + 1) n i)) (sym (p ∙ ap (λ (x : ImageEntry). x .count) q))
 
 pub named-end : (k n : ℕ) (i : List ℕ) → n ≤ k → namedWords (restOf k n i) ≡ 0
 named-end k n i h = ap namedWords (rest-end k n i h)

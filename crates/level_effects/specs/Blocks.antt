@@ -25,8 +25,8 @@ withBlock own f (r ∷ rs) (w ∷ ws) = withBlock own (cond (own && isP r) f (wi
 
 -- By the tables t, the accesses from the address in X on gave the places and the fault of r, and left the tables u. The
 -- core's registers were put back at its level: of the registers b that gives d.
-pub record BlockTest (l : ℕ) (c : Core) (k : AccessKind) (b : List ℕ) (words : ℕ) (t : List ℕ) (r : Block) (d u : List ℕ)
-    : Type 0 where
+pub record BlockTest (l : ℕ) (c : Core) (k : AccessKind) (b : List ℕ) (words : ℕ) (t : List ℕ) (r : Block)
+    (d u : List ℕ) : Type 0 where
   pub outcome :
       Outcome t words (rightsOf c) [] (blockFrom k (reg (c .file) X) blockOrder) (blockPlaces r) (r .fault) u
   pub level : l < 16

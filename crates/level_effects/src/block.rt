@@ -107,9 +107,7 @@ pub fn block_stored(
     tables: &mut [u16],
     l: u16,
 ) -> Advanced
-    requires { ⌜ level < levelCount ⌝ }
-    requires { ⌜ length (now regs) ≡ registerWords ⌝ }
-    requires { ⌜ length (now tables) ≡ tableWords ⌝ }
+    requires { ⌜ (level < levelCount) × ((length (now regs) ≡ registerWords) × (length (now tables) ≡ tableWords)) ⌝ }
     ensures { λ r. ⌜ (r .level ≡ level) × (r .before ≡ before) ⌝ }
     ensures { λ r. ⌜ ((p : List ℕ) → length p ≡ levelCount
         → advancedTurn r (now (regs .exit)) p (now (mem .exit)) (now (tables .exit))
@@ -140,9 +138,7 @@ pub fn block_loaded(
     tables: &mut [u16],
     l: u16,
 ) -> Advanced
-    requires { ⌜ level < levelCount ⌝ }
-    requires { ⌜ length (now regs) ≡ registerWords ⌝ }
-    requires { ⌜ length (now tables) ≡ tableWords ⌝ }
+    requires { ⌜ (level < levelCount) × ((length (now regs) ≡ registerWords) × (length (now tables) ≡ tableWords)) ⌝ }
     ensures { λ r. ⌜ (r .level ≡ level) × (r .before ≡ before) ⌝ }
     ensures { λ r. ⌜ ((p : List ℕ) → length p ≡ levelCount
         → advancedTurn r (now (regs .exit)) p (now (mem .entry)) (now (tables .exit))

@@ -19,8 +19,8 @@ use Rattle.memory_words.specs.declared.outcome.Places.{Places}
 
 -- what the code found of an access at the address b, which is a
 pub found-at :
-    {t : List ℕ} {words : ℕ} {r : Rights} {k : AccessKind} {alternate : Bool} {a b : ℕ} {y : Translation} {n : ℕ} {v : List ℕ}
-    → b ≡ a
+    {t : List ℕ} {words : ℕ} {r : Rights} {k : AccessKind} {alternate : Bool} {a b : ℕ} {y : Translation} {n : ℕ}
+    {v : List ℕ} → b ≡ a
     → (y ≡ translate t words r (access k alternate b)) × (v ≡ marked t words r (access k alternate b)) → n ≡ faultOf y
     → Found t words r (access k alternate a) y n v
 found-at e h q = rw (← e) (found-by h q)

@@ -172,7 +172,8 @@ block-loaded-fits {s} h l m r k f =
     (λ e. block-failed-fits h (r .fault) m (r .tables) e f k)
 
 -- a block's tests
-block-tested-fits : (x : AccessKind) (s : State) (m t : List ℕ) → LentFits m t → LentFits m (blockTested x s m t .tables)
+block-tested-fits : (x : AccessKind) (s : State) (m t : List ℕ) → LentFits m t
+    → LentFits m (blockTested x s m t .tables)
 block-tested-fits x s m t k = tested-fits (blockRequest x s) m t (length m) (rightsOf (coreOf s)) k
 
 block-fault : (x : AccessKind) (s : State) (m t : List ℕ) → FaultFits (blockTested x s m t .fault)

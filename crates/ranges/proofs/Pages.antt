@@ -55,7 +55,8 @@ FaultFits (PageFault g) = PgsFits g
 FaultFits OutOfRange = Unit
 
 -- the permit bit is missing times 16,384
-status-fits : (k : AccessKind) (missing slot : ℕ) → missing < 2 → slot < 256 → PgsFits (pagingStatus k (missing * 16384) slot)
+status-fits : (k : AccessKind) (missing slot : ℕ) → missing < 2 → slot < 256
+    → PgsFits (pagingStatus k (missing * 16384) slot)
 status-fits Fetch n slot h l = record { clear = omega arith; word = omega arith }
 status-fits Read n slot h l = record { clear = omega arith; word = omega arith }
 status-fits Write n slot h l = record { clear = omega arith; word = omega arith }

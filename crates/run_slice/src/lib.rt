@@ -1,5 +1,5 @@
 // Steps up to the first that has to do with more than the running level.
-ghost use Rattle.isa.specs.Machine.{levelCount, registerWords, tableWords};
+ghost use Rattle.isa.specs.Machine.{levelCount, tableWords};
 ghost use mathlib.Core.Path.{_≡_};
 ghost use mathlib.Core.Bool.{false};
 ghost use Prim.Native.Nat.{_<_};
@@ -8,7 +8,7 @@ ghost use lib.ListN.{length};
 ghost use Rattle.isa.specs.Machine.{pack};
 ghost use Rattle.isa.specs.Step.{step};
 ghost use Rattle.levels.specs.Changes.{advancedTurn};
-ghost use Rattle.run_level.specs.Bursts.{leaves, burstPart};
+ghost use Rattle.run_level.specs.Bursts.{Levels, leaves, burstPart};
 ghost use Rattle.run_slice.specs.Advances.{Advance};
 use isa::machine::Control;
 use isa::machine::Core;
@@ -30,9 +30,7 @@ fn settled(
     mem: &mut [u16],
     tables: &mut [u16],
 ) -> Advanced
-    requires { ⌜ level < levelCount ⌝ }
-    requires { ⌜ length (now regs) ≡ registerWords ⌝ }
-    requires { ⌜ length (now pcrs) ≡ levelCount ⌝ }
+    requires { ⌜ Levels level (now regs) (now pcrs) ⌝ }
     requires { ⌜ length (now tables) ≡ tableWords ⌝ }
     ensures { λ r. ⌜ (r .level ≡ level) × (r .before ≡ b .before) ⌝ }
     ensures { λ r. ⌜ advancedTurn r (now (regs .exit)) (now (pcrs .exit)) (now (mem .exit)) (now (tables .exit))
@@ -60,9 +58,7 @@ pub fn advance(
     tables: &mut [u16],
     n: u64,
 ) -> Advanced
-    requires { ⌜ level < levelCount ⌝ }
-    requires { ⌜ length (now regs) ≡ registerWords ⌝ }
-    requires { ⌜ length (now pcrs) ≡ levelCount ⌝ }
+    requires { ⌜ Levels level (now regs) (now pcrs) ⌝ }
     requires { ⌜ length (now tables) ≡ tableWords ⌝ }
     requires { ⌜ 0 < n ⌝ }
     requires { ⌜ eqb (c .control .stopped) 1 ≡ false ⌝ }

@@ -31,14 +31,17 @@ enum-told-6 c = search needs
 enum-told-7 : tie.Need-enum-told-7
 enum-told-7 c = search needs
 
+-- Fine
 returns-2 : tie.Need-returns-2
 unfolding permitted
 returns-2 c = simp (c .enum-told .given .1)
 
+-- Failed
 returns-3 : tie.Need-returns-3
 unfolding permitted
 returns-3 c = simp (c .enum-told2 .given .1)
 
+-- Error
 returns-4 : tie.Need-returns-4
 unfolding permitted
 returns-4 c = simp (c .enum-told3 .given .1)
@@ -48,14 +51,17 @@ returns-5 : tie.Need-returns-5
 unfolding permitted
 returns-5 c = simp (c .before .enum-told4 .given .1, c .if1 .left)
 
+-- NotPrivileged
 returns-6 : tie.Need-returns-6
 unfolding permitted
 returns-6 c = simp (c .enum-told5 .given .1)
 
+-- Monitor
 returns-7 : tie.Need-returns-7
 unfolding permitted
 returns-7 c = simp (c .enum-told6 .given .1)
 
+-- Illegal
 returns-8 : tie.Need-returns-8
 unfolding permitted
 returns-8 c = simp (c .enum-told7 .given .1)

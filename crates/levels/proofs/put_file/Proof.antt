@@ -41,6 +41,7 @@ add-regs-2 c = search needs
 mul-regs-3 : tie.Need-mul-regs-3
 mul-regs-3 c = search needs
 
+-- a store keeps the length
 slice-write-regs-3 : tie.Need-slice-write-regs-3
 slice-write-regs-3 c = simp length-set (omega arith)
 
@@ -53,6 +54,7 @@ add-regs-3 c = search needs
 mul-regs-4 : tie.Need-mul-regs-4
 mul-regs-4 c = search needs
 
+-- a store keeps the length
 slice-write-regs-4 : tie.Need-slice-write-regs-4
 slice-write-regs-4 c = simp length-set (omega arith)
 
@@ -65,6 +67,7 @@ add-regs-4 c = search needs
 mul-regs-5 : tie.Need-mul-regs-5
 mul-regs-5 c = search needs
 
+-- a store keeps the length
 slice-write-regs-5 : tie.Need-slice-write-regs-5
 slice-write-regs-5 c = simp length-set (omega arith)
 
@@ -77,6 +80,7 @@ add-regs-5 c = search needs
 mul-regs-6 : tie.Need-mul-regs-6
 mul-regs-6 c = search needs
 
+-- a store keeps the length
 slice-write-regs-6 : tie.Need-slice-write-regs-6
 slice-write-regs-6 c = simp length-set (omega arith)
 
@@ -89,6 +93,7 @@ add-regs-6 c = search needs
 mul-regs-7 : tie.Need-mul-regs-7
 mul-regs-7 c = search needs
 
+-- a store keeps the length
 slice-write-regs-7 : tie.Need-slice-write-regs-7
 slice-write-regs-7 c = simp length-set (omega arith)
 
@@ -101,6 +106,7 @@ add-regs-7 c = search needs
 mul-regs-8 : tie.Need-mul-regs-8
 mul-regs-8 c = search needs
 
+-- a store keeps the length
 slice-write-regs-8 : tie.Need-slice-write-regs-8
 slice-write-regs-8 c = simp length-set (omega arith)
 

@@ -18,6 +18,7 @@ view-answer-requires c κs = search needs
 answer-number-requires : tie.Need-answer-number-requires
 answer-number-requires c κs = search needs
 
+-- if known_target(kind)
 returns : tie.Need-returns
 unfolding hostViewAnswer
 returns c =
@@ -26,6 +27,7 @@ returns c =
     c .answer-number .ensures
     ∙ simp (c .before .view-answer .ensures .0, c .before .before .target-named .ensures, known)
 
+-- otherwise
 returns-2 : tie.Need-returns-2
 unfolding hostViewAnswer
 returns-2 c = simp (sym (c .before .known-target .ensures) ∙ c .if1 .left)

@@ -9,6 +9,7 @@ use Rattle.nd110.proofs.tell.Tie as tie
 run-number-requires : tie.Need-run-number-requires
 run-number-requires c κs = search needs
 
+-- if n != 0
 returns : tie.Need-returns
 returns c = λ m t. ended-refused _ _ _ m t _ _ _ (c .before .run-number .ensures) (c .if1 .taken)
 
@@ -24,6 +25,7 @@ reason-given-requires c κs = search needs
 same-length : tie.Need-same-length
 same-length c = search needs
 
+-- otherwise
 returns-2 : tie.Need-returns-2
 returns-2 c = λ m t.
     let stored = c .before .before .before .before in

@@ -11,6 +11,7 @@ use Rattle.nd110.proofs.tell_step.Tie as tie
 step-number-requires : tie.Need-step-number-requires
 step-number-requires c κs = search needs
 
+-- if n != 0
 returns : tie.Need-returns
 returns c = λ m t. ended-refused _ _ _ m t _ _ _ (c .before .step-number .ensures) (c .if1 .taken)
 
@@ -23,6 +24,7 @@ interrupt-given-requires c κs = search needs
 same-length : tie.Need-same-length
 same-length c = search needs
 
+-- otherwise
 returns-2 : tie.Need-returns-2
 returns-2 c = λ m t.
     let stored = c .before .before .before in

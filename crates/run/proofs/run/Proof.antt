@@ -22,6 +22,7 @@ slice-aggregate-run-in c = search needs
 slice-aggregate-run-in-2 : tie.Need-slice-aggregate-run-in-2
 slice-aggregate-run-in-2 c = search needs
 
+-- a level, and the words of all levels
 run-in-requires : tie.Need-run-in-requires
 run-in-requires c κs =
     let at-opened = c .before .before .before .before in

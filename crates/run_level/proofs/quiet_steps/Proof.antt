@@ -112,17 +112,21 @@ step-in-requires c κs =
 ends-requires : tie.Need-ends-requires Inv-loop μ-loop
 ends-requires c κs = search needs
 
+-- the steps left are at most those asked for
 sub-burst-of : tie.Need-sub-burst-of Inv-loop μ-loop
 sub-burst-of c = testing (stepping (c .before)) .before .loop .inv .1 .0 .0
 
+-- a ring, after the step
 burst-of-requires : tie.Need-burst-of-requires Inv-loop μ-loop
 burst-of-requires c κs = stepping (c .before) .step-in .ensures .0
 
+-- memory keeps its size
 same-length : tie.Need-same-length Inv-loop μ-loop
 same-length c =
     let s = stepping (c .before .before) in
     s .step-in .kept .1 .1 .0 ∙ testing s .before .loop .inv .1 .1 .0
 
+-- the tables keep theirs
 same-length-2 : tie.Need-same-length-2 Inv-loop μ-loop
 same-length-2 c =
     let s = stepping (c .before .before) in
@@ -179,6 +183,7 @@ loop-again c =
 sub-burst-of-2 : tie.Need-sub-burst-of-2 Inv-loop μ-loop
 sub-burst-of-2 c = search needs
 
+-- a ring, after all steps
 burst-of-requires-2 : tie.Need-burst-of-requires-2 Inv-loop μ-loop
 burst-of-requires-2 c κs = c .before .loop .inv .1 .0 .1
 

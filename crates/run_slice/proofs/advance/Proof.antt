@@ -3,12 +3,12 @@
 use Prim.Native.Nat.{ℕ, _<_}
 use mathlib.Core.Path.{_≡_, sym, subst, _∙_}
 use mathlib.Core.Bool.{true, false}
-use Rattle.isa.specs.Machine.{pack}
+use Rattle.isa.specs.Machine.{levelCount, pack}
 use Rattle.isa.specs.Step.{Turn}
 use Rattle.isa.specs.declared.machine.State.{State}
 use Rattle.run_slice.proofs.Advances.{advance-change, advance-burst}
 use Rattle.levels.specs.Changes.{dueAt, advancedTurn}
-use Rattle.run_level.specs.Bursts.{Executes, Levels}
+use Rattle.run_level.specs.Bursts.{Executes}
 use borrow.Author.Needs.{needs}
 use Rattle.run_slice.proofs.advance.Statement.{statement}
 use Rattle.run_slice.proofs.advance.Tie as tie
@@ -20,8 +20,11 @@ started c = let lent = c .before .before in lent .before .before .before .before
 change-due-requires : tie.Need-change-due-requires
 change-due-requires c κs = search needs
 
+-- a level, and the words of all levels
 changed-requires : tie.Need-changed-requires
-changed-requires c κs = search needs
+changed-requires c κs =
+    let k = started (c .before .before .before .before) in
+    (k .pre .0 .level, (k .pre .0 .registers, k .pre .0 .controls))
 
 same-length : tie.Need-same-length
 same-length c = search needs
@@ -40,7 +43,7 @@ returns c =
     let due : dueAt (k .args .level) (k .args .c .control) ≡ true =
     sym (tested .before .change-due .ensures) ∙ tested .if1 .taken in
     advance-change s (k .args .mem .now) (k .args .tables .now) (k .args .n) (out .result) (out .last .1 .1 .0)
-    (out .last .1 .1 .1 .0) (k .pre .1 .1 .1 .1 .0) (k .pre .1 .1 .1 .1 .1) due (out .ensures .0)
+    (out .last .1 .1 .1 .0) (k .pre .1 .1 .0) (k .pre .1 .1 .1) due (out .ensures .0)
     (out .ensures .1 (k .args .mem .now) (k .args .tables .now))
 
 quiet-steps-requires : tie.Need-quiet-steps-requires
@@ -53,7 +56,7 @@ settled-requires c κs =
     let bursting = lent .before .before .before .before in
     let tested = bursting .before .before .before .before in
     let k = started (tested .before) in
-    (k .pre .0, (k .pre .1 .0, (k .pre .1 .1 .0, bursting .quiet-steps .kept .1 .1 .1 .1 .0 ∙ k .pre .1 .1 .1 .0)))
+    (k .pre .0, bursting .quiet-steps .kept .1 .1 .1 .1 .0 ∙ k .pre .1 .0)
 
 same-length-3 : tie.Need-same-length-3
 same-length-3 c = search needs
@@ -81,18 +84,17 @@ returns-2 c =
     let stays : dueAt (k .args .level) (k .args .c .control) ≡ false = due ∙ tested .if1 .left in
     let burst = bursting .quiet-steps in
     let out = settling .settled in
-    let x : Executes (k .args .level) (k .args .c .control) = record { runs = k .pre .1 .1 .1 .1 .1; stays = stays } in
-    let v : Levels (k .args .level) (k .args .regs .now) (k .args .pcrs .now) =
-    record { level = k .pre .0; registers = k .pre .1 .0; controls = k .pre .1 .1 .0 } in
+    let x : Executes (k .args .level) (k .args .c .control) = record { runs = k .pre .1 .1 .1; stays = stays } in
     let after = burst .last .1 .1 .1 in
     let left = out .last .1 .1 .1 in
     let r : Turn = advancedTurn (out .result) (left .0) (left .1 .0) (left .1 .1 .0) (left .1 .1 .1 .0) in
-    let level : out .result .level < 16 = subst (λ (l : ℕ). l < 16) (sym (out .ensures .0 .0)) (k .pre .0) in
+    let level : out .result .level < levelCount =
+    subst (λ (l : ℕ). l < levelCount) (sym (out .ensures .0 .0)) (k .pre .0 .level) in
     let before : out .result .before < k .args .n =
     subst (λ (b : ℕ). b < k .args .n) (sym (out .ensures .0 .1)) (burst .ensures .0) in (
       (level, before),
       advance-burst (k .args .level) (k .args .c) (k .args .regs .now) (k .args .pcrs .now) (k .args .mem .now)
-          (k .args .tables .now) (after .0) (after .1 .0) (k .args .n) (burst .result) (out .result) r x v
+          (k .args .tables .now) (after .0) (after .1 .0) (k .args .n) (burst .result) (out .result) r x (k .pre .0)
           (burst .ensures .1 .0)
           (burst .ensures .1 .1) (out .ensures .0 .1) (out .ensures .1),
     )

@@ -40,6 +40,7 @@ fault-of-requires c κs = search needs
 get-requires : tie.Need-get-requires
 get-requires c κs = search needs
 
+-- the place lies within memory or tables, which keep their size
 store-at-requires : tie.Need-store-at-requires
 store-at-requires c κs =
     (place-within _ Write _ (place (translated c)), started (translated c) .pre)

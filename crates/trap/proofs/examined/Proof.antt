@@ -36,6 +36,7 @@ physical-requires c κs = search needs
 fault-of-requires : tie.Need-fault-of-requires
 fault-of-requires c κs = search needs
 
+-- the place lies within memory or tables, which keep their size
 word-at-requires : tie.Need-word-at-requires
 word-at-requires c κs = (
   place-within _ Read _ (place (translated c)),

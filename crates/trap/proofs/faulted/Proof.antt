@@ -17,6 +17,7 @@ fault-of-requires c κs = search needs
 with-control-requires : tie.Need-with-control-requires
 with-control-requires c κs = search needs
 
+-- the number of a fault is that of a bit
 gives-requires : tie.Need-gives-requires
 gives-requires c κs =
     subst (λ (n : ℕ). n < 16) (sym (c .before .fault-of .ensures))

@@ -50,6 +50,7 @@ returns-14 c = search needs
 returns-15 : tie.Need-returns-15
 returns-15 c = search needs
 
+-- any other
 returns-16 : tie.Need-returns-16
 returns-16 c = last _ _ _ _ _ refl (c .match .rest)
 

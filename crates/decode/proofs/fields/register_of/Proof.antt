@@ -26,6 +26,7 @@ returns-6 c = search needs
 returns-7 : tie.Need-returns-7
 returns-7 c = search needs
 
+-- any other
 returns-8 : tie.Need-returns-8
 returns-8 c = last _ _ _ _ _ refl (c .match .rest)
 

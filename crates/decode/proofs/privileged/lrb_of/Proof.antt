@@ -9,10 +9,12 @@ use Rattle.decode.proofs.privileged.lrb_of.Tie as tie
 four-of-requires : tie.Need-four-of-requires
 four-of-requires c κs = search needs
 
+-- if w % 8 == 0
 returns : tie.Need-returns
 unfolding lrbOf
 returns c = simp (c .four-of .ensures, eq-eqb _ _ (c .before .if1 .taken))
 
+-- otherwise
 returns-2 : tie.Need-returns-2
 unfolding lrbOf
 returns-2 c = simp (ne-eqb _ _ (c .if1 .left))

@@ -3,9 +3,11 @@
 use Rattle.decode.proofs.privileged.masked.Statement.{statement}
 use Rattle.decode.proofs.privileged.masked.Tie as tie
 
+-- if set
 returns : tie.Need-returns
 returns c = simp (c .if1 .taken)
 
+-- otherwise
 returns-2 : tie.Need-returns-2
 returns-2 c = simp (c .if1 .left)
 

@@ -28,6 +28,7 @@ returns-3 : tie.Need-returns-3
 unfolding maskedOf
 returns-3 c = search needs
 
+-- any other
 returns-4 : tie.Need-returns-4
 unfolding maskedOf
 returns-4 c = no-low-code (0o07 ∷ 0o06 ∷ 0o01 ∷ []) _ _ _ refl (c .match .rest)

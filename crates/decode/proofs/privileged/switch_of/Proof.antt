@@ -61,6 +61,7 @@ returns-9 : tie.Need-returns-9
 unfolding switchOf
 returns-9 c = search needs
 
+-- any other
 returns-10 : tie.Need-returns-10
 unfolding switchOf
 returns-10 c =

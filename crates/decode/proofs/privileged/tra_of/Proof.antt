@@ -60,6 +60,7 @@ returns-8 : tie.Need-returns-8
 unfolding traOf
 returns-8 c = search needs
 
+-- any other
 returns-9 : tie.Need-returns-9
 unfolding traOf
 returns-9 c = no-low-code (0o14 ∷ 0o11 ∷ 0o07 ∷ 0o06 ∷ 0o05 ∷ 0o04 ∷ 0o03 ∷ 0o01 ∷ []) _ _ _ refl (c .match .rest)

@@ -39,6 +39,7 @@ returns-5 : tie.Need-returns-5
 unfolding trrOf
 returns-5 c = search needs
 
+-- any other
 returns-6 : tie.Need-returns-6
 unfolding trrOf
 returns-6 c = no-low-code (0o07 ∷ 0o06 ∷ 0o05 ∷ 0o03 ∷ 0o01 ∷ []) _ _ _ refl (c .match .rest)

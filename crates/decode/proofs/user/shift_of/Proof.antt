@@ -9,10 +9,12 @@ use Rattle.decode.proofs.user.shift_of.Tie as tie
 shift-requires : tie.Need-shift-requires
 shift-requires c κs = search needs
 
+-- if w / 64 % 2 == 0
 returns : tie.Need-returns
 unfolding shiftOf
 returns c = simp (c .shift .ensures, eq-eqb _ _ (c .before .if1 .taken))
 
+-- otherwise
 returns-2 : tie.Need-returns-2
 unfolding shiftOf
 returns-2 c = simp (ne-eqb _ _ (c .if1 .left))

@@ -64,6 +64,7 @@ returns-4 c = search needs
 returns-5 : tie.Need-returns-5
 returns-5 c = search needs
 
+-- BIndexed
 returns-6 : tie.Need-returns-6
 returns-6 c =
     simp (

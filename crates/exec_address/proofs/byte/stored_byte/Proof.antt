@@ -17,6 +17,7 @@ mul-result c = search needs
 add-result : tie.Need-add-result
 add-result c = search needs
 
+-- if even_x(f)
 returns : tie.Need-returns
 returns c = simp (sym (c .before .even-x .ensures) ∙ c .if1 .taken, c .before .before .get .ensures)
 
@@ -26,6 +27,7 @@ mul-result-2 c = search needs
 add-result-2 : tie.Need-add-result-2
 add-result-2 c = search needs
 
+-- otherwise
 returns-2 : tie.Need-returns-2
 returns-2 c = simp (sym (c .before .even-x .ensures) ∙ c .if1 .left, c .before .before .get .ensures)
 

@@ -16,6 +16,7 @@ skip-if-requires c κs = search needs
 enum-told-2 : tie.Need-enum-told-2
 enum-told-2 c = search needs
 
+-- Increment
 returns : tie.Need-returns
 returns c = simp (c .skip-if .ensures, c .before .one-more .ensures, c .before .before .enum-told .given .1)
 

@@ -16,9 +16,11 @@ enum-told-2 c = search needs
 stored-byte-requires : tie.Need-stored-byte-requires
 stored-byte-requires c κs = search needs
 
+-- Increment
 returns : tie.Need-returns
 returns c = simp (c .one-more .ensures, c .before .enum-told .given .1)
 
+-- PutByte
 returns-2 : tie.Need-returns-2
 returns-2 c = simp (c .stored-byte .ensures, c .before .enum-told2 .given .1)
 

@@ -58,9 +58,11 @@ returns-5 c = search needs
 returns-6 : tie.Need-returns-6
 returns-6 c = search needs
 
+-- PIndirectIndexed
 returns-7 : tie.Need-returns-7
 returns-7 c = simp (c .wrapping-add-u16 .ensures, c .before .get .ensures, c .before .before .enum-told7 .given .1)
 
+-- BIndirectIndexed
 returns-8 : tie.Need-returns-8
 returns-8 c =
     simp (c .wrapping-add-u162 .ensures, c .before .get2 .ensures, c .before .before .enum-told8 .given .1)

@@ -64,18 +64,23 @@ enum-told-9 c = search needs
 byte-loaded-requires : tie.Need-byte-loaded-requires
 byte-loaded-requires c κs = search needs
 
+-- LoadA
 returns : tie.Need-returns
 returns c = simp (c .with .ensures, c .before .enum-told .given .1, c .before .before .before .get .ensures)
 
+-- LoadT
 returns-2 : tie.Need-returns-2
 returns-2 c = simp (c .with2 .ensures, c .before .enum-told2 .given .1, c .before .before .before .get .ensures)
 
+-- LoadX
 returns-3 : tie.Need-returns-3
 returns-3 c = simp (c .with3 .ensures, c .before .enum-told3 .given .1, c .before .before .before .get .ensures)
 
+-- Add
 returns-4 : tie.Need-returns-4
 returns-4 c = simp (c .takes .ensures, c .before .enum-told4 .given .1, c .before .before .before .get .ensures)
 
+-- Subtract
 returns-5 : tie.Need-returns-5
 returns-5 c =
     simp (
@@ -85,16 +90,20 @@ returns-5 c =
       c .before .before .before .before .get .ensures,
     )
 
+-- And
 returns-6 : tie.Need-returns-6
 returns-6 c = simp (c .with4 .ensures, c .before .enum-told6 .given .1, c .before .before .before .get .ensures)
 
+-- Or
 returns-7 : tie.Need-returns-7
 returns-7 c = simp (c .with5 .ensures, c .before .enum-told7 .given .1, c .before .before .before .get .ensures)
 
+-- Multiply
 returns-8 : tie.Need-returns-8
 returns-8 c =
     simp (c .multiplied .ensures, c .before .enum-told8 .given .1, c .before .before .before .get .ensures)
 
+-- Byte
 returns-9 : tie.Need-returns-9
 returns-9 c =
     simp (c .byte-loaded .ensures, c .before .enum-told9 .given .1, c .before .before .before .get .ensures)

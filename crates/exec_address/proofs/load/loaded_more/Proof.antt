@@ -11,6 +11,7 @@ with-requires c κs = search needs
 with-requires-2 : tie.Need-with-requires-2
 with-requires-2 c κs = search needs
 
+-- if n == 2
 returns : tie.Need-returns
 returns c = simp (c .with2 .ensures, c .before .with .ensures, eq-eqb _ _ (c .before .before .if1 .taken))
 
@@ -23,6 +24,7 @@ with-requires-4 c κs = search needs
 with-requires-5 : tie.Need-with-requires-5
 with-requires-5 c κs = search needs
 
+-- otherwise
 returns-2 : tie.Need-returns-2
 returns-2 c =
     simp (

@@ -11,6 +11,7 @@ get-requires c κs = search needs
 get-requires-2 : tie.Need-get-requires-2
 get-requires-2 c κs = search needs
 
+-- if n == 2
 returns : tie.Need-returns
 returns c = simp (c .get2 .ensures, c .before .get .ensures, eq-eqb _ _ (c .before .before .if1 .taken))
 
@@ -23,6 +24,7 @@ get-requires-4 c κs = search needs
 get-requires-5 : tie.Need-get-requires-5
 get-requires-5 c κs = search needs
 
+-- otherwise
 returns-2 : tie.Need-returns-2
 returns-2 c =
     simp (

@@ -32,6 +32,7 @@ returns c =
 address-rule-requires : tie.Need-address-rule-requires
 address-rule-requires c κs = search needs
 
+-- the place lies within memory or tables, which keep their size
 word-at-requires : tie.Need-word-at-requires
 word-at-requires c κs =
     let tested = c .before .before .before in

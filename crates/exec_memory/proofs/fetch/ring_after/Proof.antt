@@ -7,6 +7,7 @@ use Rattle.exec_memory.proofs.fetch.ring_after.Tie as tie
 ring-from-requires : tie.Need-ring-from-requires
 ring-from-requires c κs = search needs
 
+-- if r.paging
 returns : tie.Need-returns
 returns c =
     simp (c .ring-from .ensures, c .before .if1 .taken)

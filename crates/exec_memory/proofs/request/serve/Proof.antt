@@ -83,6 +83,7 @@ same-length c = search needs
 same-length-2 : tie.Need-same-length-2
 same-length-2 c = search needs
 
+-- Read
 returns-3 : tie.Need-returns-3
 returns-3 c =
     let read = c .before .before in
@@ -95,6 +96,7 @@ same-length-3 c = search needs
 same-length-4 : tie.Need-same-length-4
 same-length-4 c = search needs
 
+-- Write
 returns-4 : tie.Need-returns-4
 returns-4 c =
     let left = c .before .before .before .before in
@@ -107,6 +109,7 @@ same-length-5 c = search needs
 same-length-6 : tie.Need-same-length-6
 same-length-6 c = search needs
 
+-- Several
 returns-5 : tie.Need-returns-5
 returns-5 c =
     let left = c .before .before .before .before in
@@ -119,6 +122,7 @@ same-length-7 c = search needs
 same-length-8 : tie.Need-same-length-8
 same-length-8 c = search needs
 
+-- Update
 returns-6 : tie.Need-returns-6
 returns-6 c =
     let left = c .before .before .before .before in

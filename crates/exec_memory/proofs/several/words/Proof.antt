@@ -69,6 +69,7 @@ returns c =
 stored-more-requires : tie.Need-stored-more-requires
 stored-more-requires c κs = search needs
 
+-- the places lie within memory or tables, which keep their size
 store-all-requires : tie.Need-store-all-requires
 store-all-requires c κs =
     let p = c .before .before .before .before in

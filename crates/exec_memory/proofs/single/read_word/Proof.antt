@@ -45,6 +45,7 @@ returns c =
     access-fails (a .f) (a .mem .now) (Read (a .k)) (a .x) refl (found t) (c .before .if1 .taken)
     (c .with-event .ensures)
 
+-- the place lies within memory or tables, which keep their size
 word-at-requires : tie.Need-word-at-requires
 word-at-requires c κs =
     let t = c .before .before in

@@ -43,6 +43,7 @@ returns c =
     access-fails (a .f) (a .mem .now) (Write (a .w)) (a .x) refl (found t) (c .before .if1 .taken)
     (c .with-event .ensures)
 
+-- the place lies within memory or tables, which keep their size
 store-at-requires : tie.Need-store-at-requires
 store-at-requires c κs =
     let t = c .before .before .before in

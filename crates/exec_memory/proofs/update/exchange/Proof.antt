@@ -60,6 +60,7 @@ returns-2 c =
     let z = failed-test g (c .if2 .taken) in
     fails (a .f) (a .mem .now) (Update (a .k)) (a .x) o z (change-failed (a .f) (a .k) _ z)
 
+-- the place lies within memory or tables, which keep their size
 word-at-requires : tie.Need-word-at-requires
 word-at-requires c κs =
     let tested = c .before .before .before in
@@ -74,6 +75,7 @@ word-at-requires c κs =
 changed-requires : tie.Need-changed-requires
 changed-requires c κs = search needs
 
+-- the place lies within memory or tables, which keep their size
 store-at-requires : tie.Need-store-at-requires
 store-at-requires c κs =
     let read-word = c .before .before .before in

@@ -35,6 +35,7 @@ enum-told c = search needs
 byte-location-requires : tie.Need-byte-location-requires
 byte-location-requires c κs = search needs
 
+-- LBYT: its word goes by the level's rights
 read-word-requires : tie.Need-read-word-requires
 read-word-requires c κs =
     let matched = c .before .before .before .before in
@@ -63,6 +64,7 @@ enum-told-2 c = search needs
 byte-location-requires-2 : tie.Need-byte-location-requires-2
 byte-location-requires-2 c κs = search needs
 
+-- SBYT: its word goes by the level's rights
 put-byte-requires : tie.Need-put-byte-requires
 put-byte-requires c κs =
     let matched = c .before .before .before .before in

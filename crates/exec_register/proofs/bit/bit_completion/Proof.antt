@@ -124,51 +124,67 @@ either-requires-2 c κs = search needs
 put-k-requires-6 : tie.Need-put-k-requires-6
 put-k-requires-6 c κs = search needs
 
+-- SetZero
 returns : tie.Need-returns
 returns c = simp (c .put-bit .ensures, c .before .enum-told .given .1)
 
+-- SetOne
 returns-2 : tie.Need-returns-2
 returns-2 c = simp (c .put-bit2 .ensures, c .before .enum-told2 .given .1)
 
+-- SetComplement
 returns-3 : tie.Need-returns-3
 returns-3 c = simp (c .put-bit3 .ensures, c .before .enum-told3 .given .1)
 
+-- SetK
 returns-4 : tie.Need-returns-4
 returns-4 c = simp (c .put-bit4 .ensures, c .before .enum-told4 .given .1)
 
+-- SkipZero
 returns-5 : tie.Need-returns-5
 returns-5 c = simp (c .skip-if .ensures, c .before .enum-told5 .given .1)
 
+-- SkipOne
 returns-6 : tie.Need-returns-6
 returns-6 c = simp (c .skip-if2 .ensures, c .before .enum-told6 .given .1)
 
+-- SkipComplement
 returns-7 : tie.Need-returns-7
 returns-7 c = simp (c .enum-told7 .given .1)
 
+-- SkipK
 returns-8 : tie.Need-returns-8
 returns-8 c = simp (c .skip-if3 .ensures, c .before .enum-told8 .given .1)
 
+-- Bstc
 returns-9 : tie.Need-returns-9
 returns-9 c = simp (c .put-both .ensures, c .before .enum-told9 .given .1)
 
+-- Bsta
 returns-10 : tie.Need-returns-10
 returns-10 c = simp (c .put-both2 .ensures, c .before .enum-told10 .given .1)
 
+-- Bldc
 returns-11 : tie.Need-returns-11
 returns-11 c = simp (c .put-k .ensures, c .before .enum-told11 .given .1)
 
+-- Blda
 returns-12 : tie.Need-returns-12
 returns-12 c = simp (c .put-k2 .ensures, c .before .enum-told12 .given .1)
 
+-- Banc
 returns-13 : tie.Need-returns-13
 returns-13 c = simp (c .put-k3 .ensures, c .before .both .ensures, c .before .before .enum-told13 .given .1)
 
+-- Band
 returns-14 : tie.Need-returns-14
 returns-14 c = simp (c .put-k4 .ensures, c .before .both2 .ensures, c .before .before .enum-told14 .given .1)
 
+-- Borc
 returns-15 : tie.Need-returns-15
 returns-15 c = simp (c .put-k5 .ensures, c .before .either .ensures, c .before .before .enum-told15 .given .1)
 
+-- Bora
 returns-16 : tie.Need-returns-16
 returns-16 c = simp (c .put-k6 .ensures, c .before .either2 .ensures, c .before .before .enum-told16 .given .1)
 

@@ -8,6 +8,7 @@ use Rattle.exec_register.proofs.bit.put_bit.Tie as tie
 is-fixed-requires : tie.Need-is-fixed-requires
 is-fixed-requires c κs = search needs
 
+-- if is_fixed(r, n)
 returns : tie.Need-returns
 returns c = simp (sym (c .before .is-fixed .ensures) ∙ c .if1 .taken)
 
@@ -20,6 +21,7 @@ with-bit-requires c κs = search needs
 with-requires : tie.Need-with-requires
 with-requires c κs = search needs
 
+-- otherwise
 returns-2 : tie.Need-returns-2
 returns-2 c =
     simp (

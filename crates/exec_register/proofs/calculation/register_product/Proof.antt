@@ -8,6 +8,7 @@ use Rattle.exec_register.proofs.calculation.register_product.Tie as tie
 is-zero-requires : tie.Need-is-zero-requires
 is-zero-requires c κs = search needs
 
+-- if operand::is_zero(d)
 returns : tie.Need-returns
 returns c = simp (sym (c .before .is-zero .ensures) ∙ c .if1 .taken)
 
@@ -32,6 +33,7 @@ cast-with-2 c = search needs
 with-requires-2 : tie.Need-with-requires-2
 with-requires-2 c κs = search needs
 
+-- otherwise
 returns-2 : tie.Need-returns-2
 returns-2 c =
     let at-operand = c .before .before .before .before in

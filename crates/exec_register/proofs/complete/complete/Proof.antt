@@ -152,10 +152,12 @@ operand-requires c κs = search needs
 divided-requires : tie.Need-divided-requires
 divided-requires c κs = search needs
 
+-- Memory
 returns : tie.Need-returns
 returns c =
     simp (c .fine .ensures, c .before .enum-told .given .1)
 
+-- Jump
 returns-2 : tie.Need-returns-2
 returns-2 c =
     let told = c .before .before .before .before in
@@ -168,10 +170,12 @@ returns-2 c =
     )
     (ap endingOf (through-word (Jump (u .0 .0)) (u .0 .1 .0) (search needs) (u .1) _ _))
 
+-- Skip
 returns-3 : tie.Need-returns-3
 returns-3 c =
     simp (c .fine3 .ensures, c .before .skipped .ensures, c .before .before .before .u2 .given .1)
 
+-- Logic
 returns-4 : tie.Need-returns-4
 returns-4 c =
     let told = c .before .before .before .before in
@@ -183,6 +187,7 @@ returns-4 c =
       told .before .u3 .given .1,
     )
 
+-- RegisterAdd
 returns-5 : tie.Need-returns-5
 returns-5 c =
     let adding = c .before .before .before .before in
@@ -195,48 +200,58 @@ returns-5 c =
       adding .before .before .u4 .given .1,
     )
 
+-- NoOperation
 returns-6 : tie.Need-returns-6
 returns-6 c =
     simp (c .fine6 .ensures, c .before .enum-told2 .given .1)
 
+-- Shift
 returns-7 : tie.Need-returns-7
 returns-7 c =
     let u = c .before .before .before .u5 .given in
     simp (c .fine7 .ensures, c .before .shifted .ensures)
     (ap endingOf (through-word (Shift (u .0 .0) (u .0 .1 .0)) (u .0 .1 .1 .0) (search needs) (u .1) _ _))
 
+-- SetArgument
 returns-8 : tie.Need-returns-8
 returns-8 c =
     let u = c .before .before .before .u6 .given in
     simp (c .fine8 .ensures, c .before .set-argument .ensures)
     (ap endingOf (through-word (SetArgument (u .0 .0)) (u .0 .1 .0) (search needs) (u .1) _ _))
 
+-- AddArgument
 returns-9 : tie.Need-returns-9
 returns-9 c =
     let u = c .before .before .before .u7 .given in
     simp (c .fine9 .ensures, c .before .add-argument .ensures)
     (ap endingOf (through-word (AddArgument (u .0 .0)) (u .0 .1 .0) (search needs) (u .1) _ _))
 
+-- Bit
 returns-10 : tie.Need-returns-10
 returns-10 c =
     simp (c .fine10 .ensures, c .before .bit-done .ensures, c .before .before .before .u8 .given .1)
 
+-- LoadByte
 returns-11 : tie.Need-returns-11
 returns-11 c =
     simp (c .fine11 .ensures, c .before .enum-told3 .given .1)
 
+-- StoreByte
 returns-12 : tie.Need-returns-12
 returns-12 c =
     simp (c .fine12 .ensures, c .before .enum-told4 .given .1)
 
+-- Mix3
 returns-13 : tie.Need-returns-13
 returns-13 c =
     simp (c .fine13 .ensures, c .before .mixed .ensures, c .before .before .enum-told5 .given .1)
 
+-- Multiply
 returns-14 : tie.Need-returns-14
 returns-14 c =
     simp (c .fine14 .ensures, c .before .register-product .ensures, c .before .before .before .u9 .given .1)
 
+-- Divide
 returns-15 : tie.Need-returns-15
 returns-15 c =
     simp (c .divided .ensures, c .before .operand .ensures, c .before .before .before .u10 .given .1)

@@ -7,6 +7,7 @@ use Rattle.exec_register.proofs.jump.jump_if.Tie as tie
 with-requires : tie.Need-with-requires
 with-requires c κs = search needs
 
+-- if c
 returns : tie.Need-returns
 returns c = simp (c .with .ensures, c .before .if1 .taken)
 

@@ -91,6 +91,7 @@ negative-requires-5 c κs = search needs
 jump-if-requires-8 : tie.Need-jump-if-requires-8
 jump-if-requires-8 c κs = search needs
 
+-- Jap
 returns : tie.Need-returns
 returns c =
     let at-match = c .before .before .before .before in
@@ -103,6 +104,7 @@ returns c =
       at-match .before .before .get .ensures,
     )
 
+-- Jan
 returns-2 : tie.Need-returns-2
 returns-2 c =
     let at-match = c .before .before .before .before in
@@ -115,6 +117,7 @@ returns-2 c =
       at-match .before .before .get .ensures,
     )
 
+-- Jaz
 returns-3 : tie.Need-returns-3
 returns-3 c =
     let at-wrapping-add-u16 = c .before .before .before .before in
@@ -126,6 +129,7 @@ returns-3 c =
       at-wrapping-add-u16 .before .get .ensures,
     )
 
+-- Jaf
 returns-4 : tie.Need-returns-4
 returns-4 c =
     let at-wrapping-add-u16 = c .before .before .before .before in
@@ -137,6 +141,7 @@ returns-4 c =
       at-wrapping-add-u16 .before .get .ensures,
     )
 
+-- Jpc
 returns-5 : tie.Need-returns-5
 returns-5 c =
     let at-match = c .before .before .before .before in
@@ -149,6 +154,7 @@ returns-5 c =
       at-match .before .before .get .ensures,
     )
 
+-- Jnc
 returns-6 : tie.Need-returns-6
 returns-6 c =
     let at-match = c .before .before .before .before in
@@ -161,6 +167,7 @@ returns-6 c =
       at-match .before .before .get .ensures,
     )
 
+-- Jxz
 returns-7 : tie.Need-returns-7
 returns-7 c =
     simp (
@@ -170,6 +177,7 @@ returns-7 c =
       c .before .before .before .before .get .ensures,
     )
 
+-- Jxn
 returns-8 : tie.Need-returns-8
 returns-8 c =
     let at-wrapping-add-u16 = c .before .before .before .before in

@@ -17,6 +17,7 @@ with-bit-requires c κs = search needs
 with-requires : tie.Need-with-requires
 with-requires c κs = search needs
 
+-- if is_zero(d)
 returns : tie.Need-returns
 returns c =
     simp (
@@ -29,6 +30,7 @@ returns c =
 takes-requires : tie.Need-takes-requires
 takes-requires c κs = search needs
 
+-- otherwise
 returns-2 : tie.Need-returns-2
 returns-2 c = simp (c .takes .ensures, sym (c .before .before .is-zero .ensures) ∙ c .before .if1 .left)
 

@@ -25,6 +25,7 @@ returns c = search needs
 returns-2 : tie.Need-returns-2
 returns-2 c = search needs
 
+-- Previous
 returns-3 : tie.Need-returns-3
 returns-3 c =
     (simp (c .bit .ensures .0, c .before .get .ensures, c .before .before .enum-told3 .given .1), c .bit .ensures .1)

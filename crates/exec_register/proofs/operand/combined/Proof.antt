@@ -28,15 +28,19 @@ enum-told-4 c = search needs
 result-requires-3 : tie.Need-result-requires-3
 result-requires-3 c κs = search needs
 
+-- Swap
 returns : tie.Need-returns
 returns c = simp (c .swapped .ensures, c .before .enum-told .given .1)
 
+-- Rand
 returns-2 : tie.Need-returns-2
 returns-2 c = simp (c .result .ensures, c .before .enum-told2 .given .1)
 
+-- Rexo
 returns-3 : tie.Need-returns-3
 returns-3 c = simp (c .result2 .ensures, c .before .enum-told3 .given .1)
 
+-- Rora
 returns-4 : tie.Need-returns-4
 returns-4 c = simp (c .result3 .ensures, c .before .enum-told4 .given .1)
 

@@ -10,6 +10,7 @@ returns c = search needs
 operand-requires : tie.Need-operand-requires
 operand-requires c κs = search needs
 
+-- otherwise
 returns-2 : tie.Need-returns-2
 returns-2 c = simp (c .operand .ensures, c .before .if1 .left)
 

@@ -8,6 +8,7 @@ use Rattle.exec_register.proofs.operand.skipped.Tie as tie
 is-zero-requires : tie.Need-is-zero-requires
 is-zero-requires c κs = search needs
 
+-- if is_zero(d)
 returns : tie.Need-returns
 returns c = simp (sym (c .before .is-zero .ensures) ∙ c .if1 .taken)
 
@@ -23,6 +24,7 @@ compares-requires c κs = search needs
 skip-if-requires : tie.Need-skip-if-requires
 skip-if-requires c κs = search needs
 
+-- otherwise
 returns-2 : tie.Need-returns-2
 returns-2 c =
     let at-if1 = c .before .before .before .before in

@@ -10,12 +10,14 @@ operand-requires c κs = search needs
 complement-requires : tie.Need-complement-requires
 complement-requires c κs = search needs
 
+-- if cm1
 returns : tie.Need-returns
 returns c = simp (c .complement .ensures, c .before .operand .ensures, c .before .before .if1 .taken)
 
 operand-requires-2 : tie.Need-operand-requires-2
 operand-requires-2 c κs = search needs
 
+-- otherwise
 returns-2 : tie.Need-returns-2
 returns-2 c = simp (c .operand2 .ensures, c .before .if1 .left)
 

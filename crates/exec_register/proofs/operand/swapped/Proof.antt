@@ -8,6 +8,7 @@ use Rattle.exec_register.proofs.operand.swapped.Tie as tie
 is-zero-requires : tie.Need-is-zero-requires
 is-zero-requires c κs = search needs
 
+-- if is_zero(d)
 returns : tie.Need-returns
 returns c = simp (sym (c .before .is-zero .ensures) ∙ c .if1 .taken)
 
@@ -17,6 +18,7 @@ with-requires c κs = search needs
 result-requires : tie.Need-result-requires
 result-requires c κs = search needs
 
+-- otherwise
 returns-2 : tie.Need-returns-2
 returns-2 c =
     simp (

@@ -7,6 +7,7 @@ use Rattle.exec_register.proofs.skip.skip_if.Tie as tie
 next-requires : tie.Need-next-requires
 next-requires c κs = search needs
 
+-- if c
 returns : tie.Need-returns
 returns c = simp (c .next .ensures, c .before .if1 .taken)
 

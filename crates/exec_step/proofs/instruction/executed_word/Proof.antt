@@ -23,6 +23,7 @@ followed-requires c κs = search needs
 decode-requires : tie.Need-decode-requires
 decode-requires c κs = search needs
 
+-- PTM picks one of the level's two tables
 instruction-stage-requires : tie.Need-instruction-stage-requires
 instruction-stage-requires c κs =
     let flags = c .before .before .before .before in

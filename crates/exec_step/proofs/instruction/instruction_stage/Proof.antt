@@ -55,6 +55,7 @@ same-length c = search needs
 same-length-2 : tie.Need-same-length-2
 same-length-2 c = search needs
 
+-- Unprivileged
 returns : tie.Need-returns
 unfolding instructionStage
 returns c =
@@ -66,6 +67,7 @@ returns c =
     served .user-stage .ensures l k s
     ∙ ap (instructionStage l k (a .mem .now) (a .tables .now)) (sym (told .i .given .1))
 
+-- Privileged
 returns-2 : tie.Need-returns-2
 unfolding instructionStage eventPart permitted
 returns-2 c =
@@ -77,6 +79,7 @@ returns-2 c =
     ∙ privileged-part l (nextCore k) (a .mem .now) (a .tables .now) _ (privileged k)
     ∙ ap (instructionStage l k (a .mem .now) (a .tables .now)) (sym (told .i2 .given .1))
 
+-- Execute
 returns-3 : tie.Need-returns-3
 unfolding instructionStage eventPart permitted
 returns-3 c =
@@ -87,6 +90,7 @@ returns-3 c =
     file-left l _ _ (s .executing) (c .with-event2 .ensures)
     ∙ ap (instructionStage l k (a .mem .now) (a .tables .now)) (sym (told .enum-told .given .1))
 
+-- Monitor
 returns-4 : tie.Need-returns-4
 unfolding instructionStage eventPart permitted
 returns-4 c =
@@ -100,6 +104,7 @@ returns-4 c =
     file-left l _ _ (s .executing) (c .with-event3 .ensures ∙ ap (λ (z : ℤ). number (Monitor z)) (toZ-ofZ w16 n h))
     ∙ ap (instructionStage l k (a .mem .now) (a .tables .now)) (sym (told .i3 .given .1))
 
+-- Illegal
 returns-5 : tie.Need-returns-5
 unfolding instructionStage eventPart permitted
 returns-5 c =

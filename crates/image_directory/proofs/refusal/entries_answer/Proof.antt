@@ -23,6 +23,7 @@ abbrev μ-loop : tie.MeasureT-loop
 loop-holds : tie.Need-loop-holds Inv-loop μ-loop
 loop-holds c = (refl, search needs)
 
+-- an entry before the last lies within the image
 entry-answer-requires : tie.Need-entry-answer-requires Inv-loop μ-loop
 entry-answer-requires c κs = omega arith
 

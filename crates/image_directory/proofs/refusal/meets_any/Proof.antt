@@ -24,6 +24,7 @@ loop-holds c = (refl, search needs)
 sub-entry-at : tie.Need-sub-entry-at Inv-loop μ-loop
 sub-entry-at c = search needs
 
+-- an entry before the last lies within the image
 entry-at-requires : tie.Need-entry-at-requires Inv-loop μ-loop
 entry-at-requires c κs = omega arith
 

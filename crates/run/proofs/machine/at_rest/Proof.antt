@@ -6,15 +6,18 @@ use borrow.Author.Needs.{needs}
 use Rattle.run.proofs.machine.at_rest.Statement.{statement}
 use Rattle.run.proofs.machine.at_rest.Tie as tie
 
+-- if k.stopped == 1
 returns : tie.Need-returns
 returns c = simp (eq-eqb _ _ (c .if1 .taken))
 
 level-ends-requires : tie.Need-level-ends-requires
 level-ends-requires c κs = search needs
 
+-- if level_ends(first, level, k)
 returns-2 : tie.Need-returns-2
 returns-2 c = simp (sym (c .before .level-ends .ensures) ∙ c .if2 .taken, ne-eqb _ _ (c .before .before .if1 .left))
 
+-- otherwise
 returns-3 : tie.Need-returns-3
 returns-3 c = simp (sym (c .before .level-ends .ensures) ∙ c .if2 .left, ne-eqb _ _ (c .before .before .if1 .left))
 

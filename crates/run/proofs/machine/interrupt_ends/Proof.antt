@@ -4,6 +4,7 @@ use borrow.Author.Needs.{needs}
 use Rattle.run.proofs.machine.interrupt_ends.Statement.{statement}
 use Rattle.run.proofs.machine.interrupt_ends.Tie as tie
 
+-- if first
 returns : tie.Need-returns
 returns c = simp (c .if1 .taken)
 

@@ -7,6 +7,7 @@ use Rattle.run.proofs.machine.level_ends.Tie as tie
 change-due-requires : tie.Need-change-due-requires
 change-due-requires c κs = search needs
 
+-- if first
 returns : tie.Need-returns
 returns c = simp (c .change-due .ensures, c .before .if1 .taken)
 

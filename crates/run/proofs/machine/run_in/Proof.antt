@@ -143,17 +143,12 @@ advance-requires c κs =
     let l = tested .before .loop in
     let same = l .inv .1 .1 in
     let more : 0 < start .args .n - l .steps = omega (arith, tested .loop-test .taken) in (
-      l .inv .1 .0,
-      (
-        same .0 ∙ start .pre .1 .0 .0,
-        (
-          same .1 .0 ∙ start .pre .1 .0 .1,
-          (
-            same .1 .1 .1 ∙ start .pre .1 .1,
-            (more, ne-eqb _ _ (asked .before .before .if1 .left)),
-          ),
-        ),
-      ),
+      record {
+        level = l .inv .1 .0;
+        registers = same .0 ∙ start .pre .1 .0 .0;
+        controls = same .1 .0 ∙ start .pre .1 .0 .1;
+      },
+      (same .1 .1 .1 ∙ start .pre .1 .1, (more, ne-eqb _ _ (asked .before .before .if1 .left))),
     )
 
 -- the steps taken are at most those asked for
@@ -163,6 +158,7 @@ add-steps c =
     let tested = looping out in
     omega (arith, out .advance .ensures .0 .1, tested .loop-test .taken, started (tested .before) .fits .n)
 
+-- .. and one more
 add-steps-2 : tie.Need-add-steps-2 Inv-loop μ-loop
 add-steps-2 c =
     let out = advancing c in
@@ -175,21 +171,25 @@ interrupt-ends-requires c κs = search needs
 ended-requires-3 : tie.Need-ended-requires-3 Inv-loop μ-loop
 ended-requires-3 c κs = search needs
 
+-- an interrupt: the registers were kept in size by advance
 same-length-9 : tie.Need-same-length-9 Inv-loop μ-loop
 same-length-9 c =
     let out = advancing (c .before .before .before) in
     out .advance .kept .1 .1 .0 ∙ looping out .before .loop .inv .1 .1 .0
 
+-- .. the PCRs
 same-length-10 : tie.Need-same-length-10 Inv-loop μ-loop
 same-length-10 c =
     let out = advancing (c .before .before .before) in
     out .advance .kept .1 .1 .1 .0 ∙ looping out .before .loop .inv .1 .1 .1 .0
 
+-- .. memory
 same-length-11 : tie.Need-same-length-11 Inv-loop μ-loop
 same-length-11 c =
     let out = advancing (c .before .before .before) in
     out .advance .kept .1 .1 .1 .1 .0 ∙ looping out .before .loop .inv .1 .1 .1 .1 .0
 
+-- .. the tables
 same-length-12 : tie.Need-same-length-12 Inv-loop μ-loop
 same-length-12 c =
     let out = advancing (c .before .before .before) in
@@ -260,7 +260,8 @@ returns-4 c =
     let l = tested .before .loop in
     let at : Reason → LoopEnd =
     λ w. record { level = l .level; core = l .core; steps = l .steps; gave = l .gave; reason = w } in
-    subst (AnsweredFrom (tested .before) (l .regs) (l .pcrs) (l .mem) (l .tables)) (sym (c .ended4 .ensures ∙ ap at (c .before .at-rest .ensures)))
+    subst (AnsweredFrom (tested .before) (l .regs) (l .pcrs) (l .mem) (l .tables))
+    (sym (c .ended4 .ensures ∙ ap at (c .before .at-rest .ensures)))
     (l .inv .1 .0, ends-at-rest (l .inv .0) (tested .loop-test .left))
 
 pub run-in-spec : {M : Type 1} → statement M

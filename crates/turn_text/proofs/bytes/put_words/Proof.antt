@@ -84,7 +84,8 @@ returns c =
     let a = c .before .before .args in
     let e : l .i ≡ length (a .bytes .now) / 2 = omega arith in
     let all : length (bytesAsWords (a .bytes .now)) ≤ l .i = simp (words-length (a .bytes .now)) (omega arith) in
-    (omega arith, ap (λ (k : ℕ). take k (l .words)) (sym e) ∙ l .inv .0 ∙ take-all (l .i) (bytesAsWords (a .bytes .now)) all)
+    let taken = take-all (l .i) (bytesAsWords (a .bytes .now)) all in
+    (omega arith, ap (λ (k : ℕ). take k (l .words)) (sym e) ∙ l .inv .0 ∙ taken)
 
 pub put-words-spec : {M : Type 1} → statement M
 put-words-spec =
