@@ -1,4 +1,8 @@
 // The machine that every case starts from, before its changes.
+use isa::constant::FILE_SIZE;
+use isa::constant::PAGE_WORDS;
+use isa::constant::REGISTER_WORDS;
+use isa::constant::STATE_WORDS;
 
 // A word that tells its index.
 fn pattern(i: usize) -> u16 {
@@ -7,8 +11,8 @@ fn pattern(i: usize) -> u16 {
 
 // Registers at 8 * level + number, then the control words.
 fn state_word(i: usize) -> u16 {
-    if i < 128 {
-        if i % 8 == 0 {
+    if i < REGISTER_WORDS {
+        if i % FILE_SIZE == 0 {
             return (i * 3 % 256 / 2 * 2) as u16;
         }
         return pattern(i + 7);
@@ -35,18 +39,18 @@ fn pcr(i: usize) -> u16 {
 
 // Every access permitted to ring 2; pages of memory in another order in each table.
 fn entry(i: usize, size: usize) -> u16 {
-    if size < 1024 {
+    if size < PAGE_WORDS {
         return 0;
     }
-    let pages = size / 1024;
+    let pages = size / PAGE_WORDS;
     (58368 + (i % 64 + i / 64 % 4) % pages % 512) as u16
 }
 
 // Registers and control words of the base machine.
-pub(crate) fn base_state() -> [u16; 154] {
-    let mut flat = [0u16; 154];
+pub(crate) fn base_state() -> [u16; STATE_WORDS] {
+    let mut flat = [0u16; STATE_WORDS];
     let mut i = 0;
-    while i < 154 {
+    while i < STATE_WORDS {
         flat[i] = state_word(i);
         i += 1;
     }

@@ -2,6 +2,7 @@
 use crate::numbers::get;
 use crate::numbers::low;
 use crate::numbers::wide;
+use isa::constant::STATE_WORDS;
 
 // A word, where there is one.
 fn set(to: &mut [u16], i: usize, v: u16) {
@@ -11,8 +12,8 @@ fn set(to: &mut [u16], i: usize, v: u16) {
 }
 
 // One word: below 256 registers and control words, below 1,024 page tables from 512 on, then memory.
-fn change(flat: &mut [u16; 154], mem: &mut [u16], tables: &mut [u16], at: usize, v: u16) {
-    if at < 154 {
+fn change(flat: &mut [u16; STATE_WORDS], mem: &mut [u16], tables: &mut [u16], at: usize, v: u16) {
+    if at < STATE_WORDS {
         flat[at] = v;
         return;
     }
@@ -30,7 +31,7 @@ fn change(flat: &mut [u16; 154], mem: &mut [u16], tables: &mut [u16], at: usize,
 pub(crate) fn change_all(
     words: &[u64],
     at: usize,
-    flat: &mut [u16; 154],
+    flat: &mut [u16; STATE_WORDS],
     mem: &mut [u16],
     tables: &mut [u16],
 ) {

@@ -12,6 +12,7 @@ use crate::numbers::wide;
 use crate::numbers::within;
 use crate::operation::act;
 use crate::show::show;
+use isa::constant::STATE_WORDS;
 
 mod answer;
 mod base;
@@ -21,7 +22,13 @@ mod operation;
 mod show;
 
 // The base machine with a case's changes.
-fn prepare(words: &[u64], at: usize, flat: &mut [u16; 154], mem: &mut [u16], tables: &mut [u16]) {
+fn prepare(
+    words: &[u64],
+    at: usize,
+    flat: &mut [u16; STATE_WORDS],
+    mem: &mut [u16],
+    tables: &mut [u16],
+) {
     let size = mem.len();
     fill(1, size, mem);
     fill(2, size, tables);

@@ -11,6 +11,8 @@ use isa::answer::Answer;
 use isa::answer::RunAnswer;
 use isa::answer::StepAnswer;
 use isa::answer::Target;
+use isa::constant::PAGE_WORDS;
+use isa::constant::STATE_WORDS;
 use isa::machine::State;
 use isa::number::answer_number;
 use isa::number::reason_number;
@@ -130,9 +132,9 @@ fn view<'a>(
 
 // An image loaded over lent words that were overwritten.
 fn load_over(image: &[u16], mem: &mut [u16], tables: &mut [u16]) -> Told {
-    fill(2, 1024, mem);
+    fill(2, PAGE_WORDS, mem);
     fill(1, 0, tables);
-    let s = state_in(&[0; 154]);
+    let s = state_in(&[0; STATE_WORDS]);
     load(s, image, mem, tables)
 }
 
@@ -153,7 +155,7 @@ fn write_load(s: State, mem: &mut [u16], tables: &mut [u16], out: &mut [u16]) ->
 pub(crate) fn act(
     words: &[u64],
     at: usize,
-    flat: &[u16; 154],
+    flat: &[u16; STATE_WORDS],
     mem: &mut [u16],
     tables: &mut [u16],
     out: &mut [u16],

@@ -1,6 +1,7 @@
 // An answer's line: octal numbers and checksums.
 ghost use Prim.Native.Nat.{_<_};
 use crate::answer::Told;
+use isa::constant::FILE_SIZE;
 use isa::machine::State;
 
 // A checksum with one word more.
@@ -67,8 +68,8 @@ fn running(s: State) {
     let regs = s.regs;
     let level = s.level as usize % 16;
     let mut i = 0;
-    while i < 8 {
-        word(regs[level * 8 + i]);
+    while i < FILE_SIZE {
+        word(regs[level * FILE_SIZE + i]);
         i += 1;
     }
 }

@@ -10,7 +10,7 @@ use mathlib.Core.Bool.{Bool, true, false, cond, _&&_, _||_}
 use lib.ListN.{length}
 use lib.Dec.{leb, ltb, eqb}
 use borrow.Author.Needs.{needs as usual}
-use borrow.Author.Tests.{lt-ltb, le-ltb, leb-true, le-leb, lt-leb, ne-eqb}
+use borrow.Author.Tests.{lt-ltb, le-ltb, leb-true, lt-leb, ne-eqb}
 use Rattle.isa.specs.Decode.{byCode, byNumber, rows, decode}
 use Rattle.isa.specs.declared.instruction.Instruction.{Instruction}
 use Rattle.isa.specs.declared.instruction.Instruction.the-variants.{Unprivileged, Privileged, Execute, Monitor, Illegal}

@@ -10,7 +10,7 @@ use Rattle.isa.specs.Decode.{decode}
 use Rattle.isa.specs.Address.{access}
 use Rattle.isa.specs.Pages.{inWindow, translate, marked, wordAt, rightsOf, passes, entryAt, slotOf, loweredPcr}
 use Rattle.isa.specs.Machine.{interruptPrivileged}
-use Rattle.isa.specs.Step.{Part, executed, afterFetch, fetchOf, fetched, failed, trapped, privileged, systemStage}
+use Rattle.isa.specs.Step.{executed, afterFetch, fetchOf, fetched, failed, trapped, systemStage}
 use Rattle.isa.specs.Step.{instructionStage, stepIn}
 use Rattle.isa.specs.declared.access.AccessKind.the-variants.{Fetch}
 use Rattle.isa.specs.declared.access.Rights.{Rights}

@@ -8,7 +8,7 @@ use Prim.Native.Nat.{ℕ, zero, suc, _+_, _*_, _/_, _%_, _^_, _<_}
 use mathlib.Core.Path.{_≡_}
 use mathlib.Core.Bool.{Bool, true, cond, _&&_}
 use mathlib.Core.List.{List, [], _∷_}
-use lib.ListN.{getD, set, take, drop, length}
+use lib.ListN.{getD, set, drop, length}
 use lib.Seq.{paste}
 use lib.Dec.{ltb, leb, eqb}
 use Rattle.isa.specs.declared.machine.Register.{Register}

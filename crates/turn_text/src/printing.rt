@@ -2,7 +2,7 @@
 ghost use mathlib.Core.Path.{_≡_};
 ghost use mathlib.Core.List.{_++_};
 ghost use Prim.Native.Nat.{_+_, _*_, _≤_};
-ghost use lib.ListN.{length, take, drop};
+ghost use lib.ListN.{length, take};
 ghost use Rattle.turn_text.specs.Text.{ascii, decimal, octal, line, reasonName, registerLines, oneLetter};
 ghost use Rattle.turn_text.specs.Text.{endText, textOf};
 use crate::End;

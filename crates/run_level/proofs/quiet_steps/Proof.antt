@@ -13,7 +13,7 @@ use Rattle.isa.specs.declared.machine.File.{File}
 use Rattle.event.specs.Events.{isFine}
 use Rattle.event.specs.declared.Event.{Event}
 use Rattle.event.specs.declared.Event.the-variants.{Fine}
-use Rattle.paging.specs.Levels.{levelRights, onRing}
+use Rattle.paging.specs.Levels.{onRing}
 use Rattle.paging.proofs.Levels.{same-ring}
 use Rattle.run_level.proofs.Bursts.{Level, Steps, Quiet, at-start, all-quiet, the-only, then-ends, first-step}
 use Rattle.run_level.proofs.Bursts.{then-quiet, levelOn, stepped, Answered}

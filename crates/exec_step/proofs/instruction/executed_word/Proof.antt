@@ -1,7 +1,7 @@
 -- The word is decoded after EXR was followed, which is what the definition executes.
 -- Assumes nothing.
 use mathlib.Core.Path.{ap, sym, subst, _∙_}
-use Prim.Native.Nat.{ℕ, _<_}
+use Prim.Native.Nat.{_<_}
 use Rattle.isa.specs.Decode.{decode}
 use Rattle.isa.specs.declared.access.Rights.{Rights}
 use Rattle.paging.specs.Levels.{byFlags}

@@ -1,7 +1,6 @@
 -- EXR's word is that of its register; another word stays.
 -- Assumes nothing.
 use mathlib.Core.Path.{sym, ap, _∙_}
-use Rattle.decode.specs.declared.Exr.{Exr}
 use Rattle.exec_step.specs.Steps.{followedBy}
 use borrow.Author.Needs.{needs}
 use Rattle.exec_step.proofs.instruction.followed.Statement.{statement}

@@ -6,7 +6,6 @@ use mir.Syntax.{w16}
 use mir.Val.{SFits}
 use mir.ValLaws.{toZ-ofZ}
 use Rattle.isa.specs.Step.{instructionStage}
-use Rattle.isa.specs.declared.machine.File.{File}
 use Rattle.event.specs.declared.Ending.{Ending}
 use Rattle.event.specs.declared.Event.the-variants.{Monitor}
 use Rattle.event.specs.declared.Event.{Event}
