@@ -11,7 +11,7 @@ use lib.ListN.{getD, drop, length, drop-of-length-le}
 use lib.Seq.{drop-cons}
 use lib.Dec.{ltb, leb, eqb}
 use borrow.Author.Tests.{leb-true, eqb-true}
-use Rattle.isa.specs.Machine.{pcrBits, allPcrBits, flagsFit}
+use Rattle.isa.specs.Machine.{levelCount, pcrBits, allPcrBits, flagsFit}
 use Rattle.isa.specs.Answers.{deviceLevel}
 use Rattle.isa.proofs.Tests.{no-both}
 
@@ -47,10 +47,10 @@ pub flags-more : (n : ℕ) (b : List ℕ) → flagsFit n b ≡ true → ltb (get
 flags-more n b h e = rw (add-one n, e, h)
 
 -- the levels of devices are levels
-pub device-level : (l : ℕ) → deviceLevel l ≡ true → l < 16
+pub device-level : (l : ℕ) → deviceLevel l ≡ true → l < levelCount
 device-level l h = go (leb 10 l) (leb l 13) (eqb l 15) refl refl h
   where
-    go : (x y z : Bool) → leb l 13 ≡ y → eqb l 15 ≡ z → (x && y || z) ≡ true → l < 16
+    go : (x y z : Bool) → leb l 13 ≡ y → eqb l 15 ≡ z → (x && y || z) ≡ true → l < levelCount
     go x y true q r e = omega (arith, eqb-true l 15 r)
     go x true false q r e = omega (arith, leb-true l 13 q)
     go true false false q r e = absurd (no-both e)

@@ -1,6 +1,6 @@
 -- What a test says that is passed: of answers, of sizes.
 -- Assumes nothing.
-use Rattle.isa.specs.Machine.{tableWords}
+use Rattle.isa.specs.Machine.{largestMemory, pageWords, tableWords}
 use Prim.Native.Nat.{ℕ, _%_, _≤_}
 use mathlib.Core.Path.{_≡_, refl}
 use mathlib.Core.Bool.{Bool, true, false, cond, not, _&&_}
@@ -22,11 +22,11 @@ refused-not-done r p = let z : _≡_ {A = ℕ} 0 1 = cc in omega arith
 
 -- what sizes that fit say
 module _ (m t : List ℕ) (h : sizesFit m t ≡ true) where
-  pub memory-most : length m ≤ 524288
+  pub memory-most : length m ≤ largestMemory
   unfolding sizesFit
   memory-most =
-      leb-true (length m) 524288
-      (and-right (eqb (length m % 1024) 0 && leb 1024 (length m)) (leb (length m) 524288)
+      leb-true (length m) largestMemory
+      (and-right (eqb (length m % pageWords) 0 && leb pageWords (length m)) (leb (length m) largestMemory)
       (and-left (memorySize (length m)) (eqb (length t) 256) h))
 
   pub tables-all : length t ≡ tableWords

@@ -1,6 +1,6 @@
 -- The image's words one after the other, and what write answers.
 -- Assumes nothing.
-use Rattle.isa.specs.Machine.{levelCount, registerWords, tableWords}
+use Rattle.isa.specs.Machine.{stateWords, largestMemory, levelCount, registerWords, tableWords}
 use Prim.Native.Nat.{ℕ, _+_, _≤_, _<_}
 use mathlib.Core.Path.{_≡_, refl, sym, ap, _∙_}
 use mathlib.Core.Bool.{Bool, true, false, cond}
@@ -11,7 +11,7 @@ use lib.Seq.{paste}
 use lib.Dec.{ltb}
 use borrow.Author.Tests.{lt-ltb, le-ltb, ltb-false}
 use Rattle.isa.specs.Machine.{controlWords}
-use Rattle.isa.specs.Images.{contentsWords, imageOf, imageSize}
+use Rattle.isa.specs.Images.{besideMemory, contentsSize, contentsWords, imageOf, imageSize}
 use Rattle.isa.specs.Answers.{stateAnswer, outputAnswer, writeAnswer, writtenBy, writtenOutput}
 use Rattle.isa.specs.declared.machine.State.{State}
 use Rattle.isa.specs.declared.answer.Refusal.{Refusal}
@@ -26,9 +26,9 @@ use Rattle.image_write.proofs.Joined.{joined, paste-join}
 -- contents and memory
 pub memory-put : (w m o c d e : List ℕ) (n : ℕ) → length w ≡ 21 → length m ≡ n → c ≡ w → d ≡ paste o 0 c 21
     → e ≡ paste d 21 m n
-    → e ≡ (w ++ m) ++ drop (n + 21) o
+    → e ≡ (w ++ m) ++ drop (n + contentsSize) o
 memory-put w m o c d e n hw hm hc hd he =
-    let q : 21 + n ≡ n + 21 = omega arith in
+    let q : 21 + n ≡ n + contentsSize = omega arith in
     let f : d ≡ w ++ drop 21 o = hd ∙ ap (λ (x : List ℕ). paste o 0 x 21) hc ∙ joined [] w o o 0 21 refl hw refl in
     he ∙ joined w m o d 21 n hw hm f ∙ ap (λ (x : ℕ). (w ++ m) ++ drop x o) q
 
@@ -38,7 +38,7 @@ pub state-put : (o r j k p d e f : List ℕ) (at : ℕ) → at ≤ length o → 
     → d ≡ paste o at r 128
     → e ≡ paste d (at + 128) j 10
     → f ≡ paste e (at + 138) p 16
-    → f ≡ paste o at (r ++ (k ++ p)) 154
+    → f ≡ paste o at (r ++ (k ++ p)) stateWords
 state-put o r j k p d e f at h hr hk hp hj hd he hf =
     let q : length (r ++ k) ≡ 138 = length-append r k ∙ omega (arith, hr, hk) in
     let g : e ≡ paste o at (r ++ k) 138 =
@@ -46,41 +46,42 @@ state-put o r j k p d e f at h hr hk hp hj hd he hf =
     hf
     ∙ ap (λ (x : List ℕ). paste x (at + 138) p 16) g
     ∙ paste-join o (r ++ k) p at 138 16 h q hp
-    ∙ ap (λ (x : List ℕ). paste o at x 154) (append-assoc r k p)
+    ∙ ap (λ (x : List ℕ). paste o at x stateWords) (append-assoc r k p)
 
 -- the image
-pub image-put : (s : State) (m t o d e f : List ℕ) (n : ℕ) → length m ≡ n → length (s .regs ++ controlWords s) ≡ 154
+pub image-put : (s : State) (m t o d e f : List ℕ) (n : ℕ) → length m ≡ n
+    → length (s .regs ++ controlWords s) ≡ stateWords
     → length t ≡ tableWords
-    → d ≡ (contentsWords (length m) ++ m) ++ drop (n + 21) o
-    → e ≡ paste d (n + 21) (s .regs ++ controlWords s) 154
+    → d ≡ (contentsWords (length m) ++ m) ++ drop (n + contentsSize) o
+    → e ≡ paste d (n + contentsSize) (s .regs ++ controlWords s) stateWords
     → f ≡ paste e (n + 175) t 256
-    → f ≡ imageOf s m t ++ drop (n + 431) o
+    → f ≡ imageOf s m t ++ drop (n + besideMemory) o
 unfolding imageOf
 image-put s m t o d e f n hm hw ht hd he hf =
     let c : List ℕ = contentsWords (length m) in
     let w : List ℕ = s .regs ++ controlWords s in
-    let a : length (c ++ m) ≡ n + 21 = length-append c m ∙ omega (arith, hm) in
+    let a : length (c ++ m) ≡ n + contentsSize = length-append c m ∙ omega (arith, hm) in
     let b : length ((c ++ m) ++ w) ≡ n + 175 = length-append (c ++ m) w ∙ omega (arith, a, hw) in
-    let p : n + 21 + 154 ≡ n + 175 = omega arith in
-    let q : n + 175 + 256 ≡ n + 431 = omega arith in
+    let p : n + contentsSize + stateWords ≡ n + 175 = omega arith in
+    let q : n + 175 + 256 ≡ n + besideMemory = omega arith in
     let g : e ≡ ((c ++ m) ++ w) ++ drop (n + 175) o =
-    he ∙ joined (c ++ m) w o d (n + 21) 154 a hw hd ∙ ap (λ (x : ℕ). ((c ++ m) ++ w) ++ drop x o) p in
+    he ∙ joined (c ++ m) w o d (n + contentsSize) stateWords a hw hd ∙ ap (λ (x : ℕ). ((c ++ m) ++ w) ++ drop x o) p in
     hf
     ∙ joined ((c ++ m) ++ w) t o e (n + 175) 256 b ht g
     ∙ ap (λ (x : ℕ). (((c ++ m) ++ w) ++ t) ++ drop x o) q
-    ∙ ap (λ (x : List ℕ). x ++ drop (n + 431) o)
+    ∙ ap (λ (x : List ℕ). x ++ drop (n + besideMemory) o)
     (append-assoc (c ++ m) w t ∙ append-assoc c m (w ++ t)
     ∙ ap (λ (x : List ℕ). c ++ (m ++ x)) (append-assoc (s .regs) (controlWords s) t))
 
 -- ---- the answer
 
-pub no-room : (words size : ℕ) → size < words + 431 → Refused Output ≡ roomAnswer words size
+pub no-room : (words size : ℕ) → size < words + besideMemory → Refused Output ≡ roomAnswer words size
 unfolding roomAnswer
-no-room words size h = simp (lt-ltb size (words + 431) h)
+no-room words size h = simp (lt-ltb size (words + besideMemory) h)
 
-pub room : (words size : ℕ) → words + 431 ≤ size → Done ≡ roomAnswer words size
+pub room : (words size : ℕ) → words + besideMemory ≤ size → Done ≡ roomAnswer words size
 unfolding roomAnswer
-room words size h = simp (le-ltb size (words + 431) h)
+room words size h = simp (le-ltb size (words + besideMemory) h)
 
 module _ (s : State) (m t out : List ℕ) (a : Answer)
     (g : a ≡ firstOf (stateAnswer s m t) (roomAnswer (length m) (length out))) where
@@ -103,18 +104,18 @@ module _ (s : State) (m t out : List ℕ) (a : Answer)
   write-refused r e = (sym e ∙ answer-is, ap (λ (x : Answer). writtenBy x s m t out) (sym e ∙ answer-is))
 
   -- what an image needs
-  pub write-needs : a ≡ Done → (length m ≤ 524288) × ((length t ≡ tableWords) × (imageSize m ≤ length out))
+  pub write-needs : a ≡ Done → (length m ≤ largestMemory) × ((length t ≡ tableWords) × (imageSize m ≤ length out))
   unfolding roomAnswer
   write-needs e = go (stateAnswer s m t) refl (sym g ∙ e)
     where
       go : (x : Answer) → stateAnswer s m t ≡ x → firstOf x (roomAnswer (length m) (length out)) ≡ Done
-          → (length m ≤ 524288) × ((length t ≡ tableWords) × (imageSize m ≤ length out))
+          → (length m ≤ largestMemory) × ((length t ≡ tableWords) × (imageSize m ≤ length out))
       go Done q p =
           let z = sizes-of s m t q in
-          (memory-most m t z, (tables-all m t z, fits (ltb (length out) (length m + 431)) refl p))
+          (memory-most m t z, (tables-all m t z, fits (ltb (length out) (length m + besideMemory)) refl p))
         where
-          fits : (b : Bool) → ltb (length out) (length m + 431) ≡ b → cond b (Refused Output) Done ≡ Done
-              → length m + 431 ≤ length out
-          fits false l d = ltb-false (length out) (length m + 431) l
+          fits : (b : Bool) → ltb (length out) (length m + besideMemory) ≡ b → cond b (Refused Output) Done ≡ Done
+              → length m + besideMemory ≤ length out
+          fits false l d = ltb-false (length out) (length m + besideMemory) l
           fits true l d = absurd (refused-not-done Output d)
       go (Refused r) q p = absurd (refused-not-done r p)

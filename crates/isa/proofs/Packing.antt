@@ -41,7 +41,7 @@ word-of f ws A = refl
 word-of f ws T = refl
 word-of f ws X = refl
 
-module _ (b : List ℕ) (l : ℕ) (h : l < 16) (e : length b ≡ registerWords) where
+module _ (b : List ℕ) (l : ℕ) (h : l < levelCount) (e : length b ≡ registerWords) where
   pub put-length : (f : File) → length (putFile b l f) ≡ registerWords
   unfolding putFile
   put-length f = length-paste b (l * 8) (fileWords f) 8 (omega arith) (le-refl 8) ∙ e
@@ -131,7 +131,7 @@ number-small A = omega arith
 number-small T = omega arith
 number-small X = omega arith
 
-module _ (b : List ℕ) (l : ℕ) (h : l < 16) (e : length b ≡ registerWords) where
+module _ (b : List ℕ) (l : ℕ) (h : l < levelCount) (e : length b ≡ registerWords) where
   -- a register is set in the level's file, and nowhere else
   pub register-set : (r : Register) (v : ℕ) → set b (l * 8 + number r) v ≡ putFile b l (withReg (fileAt b l) r v)
   unfolding putFile
@@ -152,7 +152,8 @@ module _ (b : List ℕ) (l : ℕ) (h : l < 16) (e : length b ≡ registerWords) 
 
 -- ---- the running level in the state
 
-module _ (l : ℕ) (c : Core) (b p : List ℕ) (h : l < 16) (e : length b ≡ registerWords) (k : length p ≡ levelCount) where
+module _ (l : ℕ) (c : Core) (b p : List ℕ) (h : l < levelCount) (e : length b ≡ registerWords)
+    (k : length p ≡ levelCount) where
   pub open-pack : coreOf (pack l c b p) ≡ c
   open-pack =
       let f = take-put b l h e (c .file) in
@@ -165,7 +166,7 @@ module _ (l : ℕ) (c : Core) (b p : List ℕ) (h : l < 16) (e : length b ≡ re
       let q = set-set p l (c .pcr) (d .pcr) in
       λ i. record { regs = r i; level = l; control = d .control; pcr = q i }
 
-pub pack-open : (s : State) → s .level < 16 → length (s .regs) ≡ registerWords → withCore s (coreOf s) ≡ s
+pub pack-open : (s : State) → s .level < levelCount → length (s .regs) ≡ registerWords → withCore s (coreOf s) ≡ s
 pack-open s h e =
     let r = put-take (s .regs) (s .level) h e in
     let q = set-getD (s .pcr) (s .level) 0 in

@@ -4,7 +4,7 @@ use Prim.Native.Nat.{ℕ, _+_}
 use mathlib.Core.Path.{_≡_, refl}
 use mathlib.Core.List.{List, [], _∷_, _++_}
 use lib.ListN.{getD, replicate}
-use Rattle.isa.specs.Machine.{fileAt, putFile}
+use Rattle.isa.specs.Machine.{tableWords, fileAt, putFile}
 use Rattle.isa.specs.Flags.{adder, withOverflow, withSum, productOverflow, divisionFails, leftOnce, rightOnce}
 use Rattle.isa.specs.Decode.{byCode, byNumber, decode, traOf, trrOf, maskedOf, switchOf, srbOf, lrbOf, shiftOf}
 use Rattle.isa.specs.Address.{firstAddress}
@@ -51,7 +51,7 @@ tablesOf e f = e ∷ f ∷ replicate 254 0
 
 -- one step with paging off: the word w at address 0, v at address 1
 abbrev pub bare : ℕ → ℕ → ℕ → ℕ → ℕ → ℕ → Turn
-bare d b a t w v = step (start d b a t 0 0) (memoryOf w v) (replicate 256 0)
+bare d b a t w v = step (start d b a t 0 0) (memoryOf w v) (replicate tableWords 0)
 
 -- one step on ring 1 with paging on, by the first two entries e and f of table 0
 abbrev pub paged : ℕ → ℕ → ℕ → ℕ → Turn
@@ -83,7 +83,7 @@ cases =
             pcr = replicate 16 0;
           })
           (replicate 0o76 0 ++ (0o001234 ∷ 0 ∷ 0o044376 ∷ replicate 959 0))
-          (replicate 256 0)),
+          (replicate tableWords 0)),
       0 ∷ 0o001234 ∷ [],
     )
     -- B 177777, disp 1: ea 000000. LDA 1,B loads the word there, itself.

@@ -1,6 +1,6 @@
 -- A step that faults stores nothing and changes no register but P.
 -- Assumes nothing.
-use Rattle.isa.specs.Machine.{registerWords}
+use Rattle.isa.specs.Machine.{levelCount, registerWords}
 use Prim.Native.Nat.{ℕ, _+_, _*_, _<_}
 use native.Mathlib.Omega.{arith}
 use mathlib.Core.Path.{_≡_, refl, sym, ap, subst, _∙_}
@@ -231,7 +231,7 @@ abbrev Keeps : List ℕ → List ℕ → List ℕ → Turn → Type 0
 Keeps b m t r = isFault (r .gave) ≡ true → Kept b m t r
 
 -- a block: an access failed, and the running level's words, taken out, are put back as they are; or there is no fault
-module _ (s : State) (m t₀ : List ℕ) (l : s .level < 16) (n : length (s .regs) ≡ registerWords) where
+module _ (s : State) (m t₀ : List ℕ) (l : s .level < levelCount) (n : length (s .regs) ≡ registerWords) where
   block-keeps : (x : Translation) (t : List ℕ) → Marked t t₀ → Keeps (s .regs) m t₀ (blockFailed s x m t)
   unfolding faulted
   block-keeps x t h e = record { regs = put-take (s .regs) (s .level) l n; memory = refl; tables = h }
@@ -250,7 +250,7 @@ block-marks : (k : AccessKind) (s : State) (m t t₀ : List ℕ) → Marked t t�
 block-marks k s m t t₀ = tested-marks (blockRequest k s) t t₀ (length m) (rightsOf (coreOf s))
 
 -- the file f in the running level's place among all registers
-module _ (s : State) (f : File) (m t : List ℕ) (l : s .level < 16)
+module _ (s : State) (f : File) (m t : List ℕ) (l : s .level < levelCount)
     (n : length (putFile (s .regs) (s .level) f) ≡ registerWords) where
   abbrev all : List ℕ
   all = putFile (s .regs) (s .level) f
@@ -290,7 +290,7 @@ module _ (s : State) (f : File) (m t : List ℕ) (l : s .level < 16)
 -- ---- one step
 
 -- the running level's registers put back, P one further or not, are all registers with P's word set
-put-fault : (s : State) (b : Bool) → s .level < 16 → length (s .regs) ≡ registerWords
+put-fault : (s : State) (b : Bool) → s .level < levelCount → length (s .regs) ≡ registerWords
     → putFile (s .regs) (s .level) (faultFile (fileAt (s .regs) (s .level)) b)
     ≡ set (s .regs) (placeOf (s .level) P) (cond b (sum (registerAt s (s .level) P) 1) (registerAt s (s .level) P))
 put-fault s b l n = rw place (go b)

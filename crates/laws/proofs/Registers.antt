@@ -1,6 +1,6 @@
 -- P of a level among all registers: read there, and written there.
 -- Assumes nothing.
-use Rattle.isa.specs.Machine.{registerWords}
+use Rattle.isa.specs.Machine.{levelCount, registerWords}
 use Prim.Native.Nat.{ℕ, _+_, _*_, _<_}
 use mathlib.Core.Path.{_≡_, sym}
 use mathlib.Core.List.{List}
@@ -9,7 +9,7 @@ use Rattle.isa.specs.Machine.{reg, withReg, fileAt, putFile}
 use Rattle.isa.specs.declared.machine.Register.the-variants.{P}
 use Rattle.isa.proofs.Packing.{register-at, register-set}
 
-module _ (b : List ℕ) (l : ℕ) (h : l < 16) (e : length b ≡ registerWords) where
+module _ (b : List ℕ) (l : ℕ) (h : l < levelCount) (e : length b ≡ registerWords) where
   pub p-at : reg (fileAt b l) P ≡ getD b (l * 8 + 2) 0
   p-at = sym (register-at b l P)
 

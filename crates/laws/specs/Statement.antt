@@ -1,5 +1,5 @@
 -- What document 01 says of a step and of a view that follows from their definitions: each law under its sentence.
-use Rattle.isa.specs.Machine.{registerWords}
+use Rattle.isa.specs.Machine.{levelCount, registerWords}
 use Prim.Native.Nat.{ℕ, _+_, _<_, _≤_}
 use mathlib.Core.Path.{_≡_}
 use mathlib.Core.Bool.{Bool, true, false, cond, _||_}
@@ -33,10 +33,10 @@ use Rattle.isa.specs.declared.answer.Answer.the-variants.{Done, Refused}
 
 -- level l is raised (in PID), enabled (in PIE), and no level above it is both
 pub record HighestRaised (k : Control) (l : ℕ) : Type 0 where
-  pub level : l < 16
+  pub level : l < levelCount
   pub raised : bit l (k .pid) ≡ 1
   pub enabled : bit l (k .pie) ≡ 1
-  pub highest : (j : ℕ) → l < j → j < 16 → bit j (k .pid) ≡ 1 → bit j (k .pie) ≡ 1 → ⊥
+  pub highest : (j : ℕ) → l < j → j < levelCount → bit j (k .pid) ≡ 1 → bit j (k .pie) ≡ 1 → ⊥
 
 -- whether it is the running level already or not
 abbrev pub RaisedLevelRuns : Type 0
@@ -70,7 +70,8 @@ pub record LeavesAllButP (s : State) (m t : List ℕ) (r : Turn) : Type 0 where
 
 abbrev pub FaultLeavesAllButP : Type 0
 FaultLeavesAllButP =
-    (s : State) (m t : List ℕ) → s .level < 16 → length (s .regs) ≡ registerWords → isFault (step s m t .gave) ≡ true
+    (s : State) (m t : List ℕ) → s .level < levelCount → length (s .regs) ≡ registerWords
+    → isFault (step s m t .gave) ≡ true
     → LeavesAllButP s m t (step s m t)
 
 -- ---- "A passed fetch from a lower ring lowers the user's ring in PCR before the word is decoded .. Privileged codes

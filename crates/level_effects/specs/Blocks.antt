@@ -1,5 +1,5 @@
 -- What the test of a register block leaves, and a block's words in a level's file.
-use Rattle.isa.specs.Machine.{registerWords}
+use Rattle.isa.specs.Machine.{levelCount, registerWords}
 use Prim.Native.Nat.{ℕ, _<_}
 use mathlib.Core.Path.{_≡_}
 use mathlib.Core.Bool.{Bool, cond, _&&_}
@@ -29,6 +29,6 @@ pub record BlockTest (l : ℕ) (c : Core) (k : AccessKind) (b : List ℕ) (words
     (d u : List ℕ) : Type 0 where
   pub outcome :
       Outcome t words (rightsOf c) [] (blockFrom k (reg (c .file) X) blockOrder) (blockPlaces r) (r .fault) u
-  pub level : l < 16
+  pub level : l < levelCount
   pub registers : length b ≡ registerWords
   pub put : d ≡ putFile b l (c .file)

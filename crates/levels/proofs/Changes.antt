@@ -1,6 +1,6 @@
 -- A change of level: when it is due, and what it leaves.
 -- Assumes nothing.
-use Rattle.isa.specs.Machine.{registerWords}
+use Rattle.isa.specs.Machine.{levelCount, registerWords}
 use Prim.Native.Nat.{ℕ, _<_}
 use mathlib.Core.Path.{_≡_, refl, ap, _∙_}
 use mathlib.Core.List.{List}
@@ -26,7 +26,7 @@ oldLevel l c = withLevels (c .control) (c .control .pid) (c .control .pie) l
 
 -- a change of level: b are all registers with the old level's put back, f the new level's out of them
 pub changed-level :
-    (l : ℕ) (c : Core) (regs pcrs : List ℕ) (to : ℕ) → to < 16 → (b : List ℕ) (f : File)
+    (l : ℕ) (c : Core) (regs pcrs : List ℕ) (to : ℕ) → to < levelCount → (b : List ℕ) (f : File)
     → length b ≡ registerWords
     → b ≡ putFile regs l (c .file)
     → f ≡ fileAt b to

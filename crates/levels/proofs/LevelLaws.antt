@@ -1,6 +1,6 @@
 -- Eight stores put a level's file back.
 -- Assumes nothing.
-use Rattle.isa.specs.Machine.{registerWords}
+use Rattle.isa.specs.Machine.{levelCount, registerWords}
 use Prim.Native.Nat.{ℕ, suc, _+_, _*_, _<_}
 use mathlib.Core.Path.{_≡_, refl, _∙_}
 use mathlib.Core.List.{List}
@@ -12,7 +12,7 @@ use Rattle.isa.specs.declared.machine.File.{File}
 use Rattle.isa.specs.declared.machine.Register.{Register}
 use Rattle.isa.specs.declared.machine.Register.the-variants.{D, P, B, L, A, T, X}
 
-module _ (b : List ℕ) (l : ℕ) (h : l < 16) (e : length b ≡ registerWords) (f : File) where
+module _ (b : List ℕ) (l : ℕ) (h : l < levelCount) (e : length b ≡ registerWords) (f : File) where
   -- one store more of a copy
   more : (d : List ℕ) (k j : ℕ) → k ≡ l * 8 + j → j < 8 → d ≡ paste b (l * 8) (fileWords f) j
       → set d k (getD (fileWords f) j 0) ≡ paste b (l * 8) (fileWords f) (suc j)

@@ -1,6 +1,6 @@
 -- Registers by their numbers, and the running level's words among those of all levels.
 -- Assumes nothing.
-use Rattle.isa.specs.Machine.{registerWords}
+use Rattle.isa.specs.Machine.{levelCount, registerWords}
 use Prim.Native.Nat.{ℕ, _+_, _*_, _%_, _<_}
 use native.Mathlib.Omega.{arith}
 use mathlib.Core.Path.{_≡_, refl, sym, ap, _∙_}
@@ -35,7 +35,7 @@ kept-by-number X w = refl
 
 -- a register is set where a file was put
 pub put-set :
-    (b : List ℕ) (l : ℕ) → l < 16 → length b ≡ registerWords → (f : File) (r : Register) (v : ℕ)
+    (b : List ℕ) (l : ℕ) → l < levelCount → length b ≡ registerWords → (f : File) (r : Register) (v : ℕ)
     → set (putFile b l f) (l * 8 + number r) v ≡ putFile b l (withReg f r v)
 put-set b l h e f r v =
     let d : List ℕ = putFile b l f in
@@ -58,7 +58,7 @@ other-put s l r w = go (eqb (l % 16) (s .level) && isP r) (set (s .regs) (placeO
 
 -- ---- the running level's words in the state
 
-module _ (l : ℕ) (c : Core) (b p : List ℕ) (h : l < 16) (e : length b ≡ registerWords) where
+module _ (l : ℕ) (c : Core) (b p : List ℕ) (h : l < levelCount) (e : length b ≡ registerWords) where
   same-level : l % 16 ≡ l
   same-level = omega arith
 

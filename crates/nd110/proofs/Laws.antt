@@ -9,6 +9,7 @@ use native.Mathlib.Nat.{le-of-eq, zero-add}
 use lib.ListN.{length, drop, length-take}
 use lib.Seq.{paste, take-all}
 use borrow.Author.Tests.{eq-eqb, ne-eqb}
+use Rattle.isa.specs.Machine.{stateWords}
 use Rattle.isa.specs.Answers.{viewAnswer, viewedBy, viewed, targetOf}
 use Rattle.isa.specs.declared.machine.State.{State}
 use Rattle.isa.specs.declared.answer.Target.{Target}
@@ -48,16 +49,17 @@ module _ (n k : ℕ) (s : State) (m t x w y : List ℕ) (e : n ≡ k) where
       ∙ ap (λ (j : ℕ). ended j s m t x w y) e
 
 -- words that are no state
-pub called-badly : (w m t y : List ℕ) (l : Left) → (length w ≡ 154 → ⊥) → leftOf badCall w m t y ≡ called w m t y l
+pub called-badly : (w m t y : List ℕ) (l : Left) → (length w ≡ stateWords → ⊥)
+    → leftOf badCall w m t y ≡ called w m t y l
 unfolding called
-called-badly w m t y l h = ap (λ (b : Bool). cond b l (leftOf badCall w m t y)) (sym (ne-eqb (length w) 154 h))
+called-badly w m t y l h = ap (λ (b : Bool). cond b l (leftOf badCall w m t y)) (sym (ne-eqb (length w) stateWords h))
 
 -- the words' state s, an operation that gave r, and what was left by it
 pub called-well : {C : Type 0} (call : State → C) (end : C → Left) (w m t y : List ℕ) (s : State) (r : C) (l : Left)
-    → length w ≡ 154 → s ≡ stateIn w → r ≡ call s → l ≡ end r → l ≡ called w m t y (end (call (stateIn w)))
+    → length w ≡ stateWords → s ≡ stateIn w → r ≡ call s → l ≡ end r → l ≡ called w m t y (end (call (stateIn w)))
 unfolding called
 called-well call end w m t y s r l h given gave left =
     let x = end (call (stateIn w)) in
     left
     ∙ ap end (gave ∙ ap call given)
-    ∙ ap (λ (b : Bool). cond b x (leftOf badCall w m t y)) (sym (eq-eqb (length w) 154 h))
+    ∙ ap (λ (b : Bool). cond b x (leftOf badCall w m t y)) (sym (eq-eqb (length w) stateWords h))

@@ -1,6 +1,6 @@
 -- What a call that is not refused has, and what is said of two machines.
 -- Assumes nothing.
-use Rattle.isa.specs.Machine.{tableWords}
+use Rattle.isa.specs.Machine.{levelCount, tableWords}
 use Prim.Native.Nat.{ℕ, _<_}
 use mathlib.Core.Path.{_≡_, refl, sym, ap, subst, _∙_}
 use mathlib.Core.Bool.{Bool, true, false, cond, not, _&&_}
@@ -34,7 +34,7 @@ range-of s m t = go (sizesFit m t) (inRange s)
     go false y e = cc
 
 -- so a level from 0 to 15
-level-of : (s : State) (m t : List ℕ) → stateAnswer s m t ≡ Done → s .level < 16
+level-of : (s : State) (m t : List ℕ) → stateAnswer s m t ≡ Done → s .level < levelCount
 unfolding inRange
 level-of s m t e =
     ltb-true (s .level) 16 (and-left l k (and-left (l && k) p (and-left (l && k && p) f (range-of s m t e))))
@@ -52,7 +52,8 @@ level-of s m t e =
     f = flagsFit 16 (s .regs)
 
 -- what a run asks of it
-pub run-needs : (s : State) (m t : List ℕ) → stateAnswer s m t ≡ Done → (s .level < 16) × (length t ≡ tableWords)
+pub run-needs : (s : State) (m t : List ℕ) → stateAnswer s m t ≡ Done
+    → (s .level < levelCount) × (length t ≡ tableWords)
 run-needs s m t e = (level-of s m t e, tables-all m t (sizes-of s m t e))
 
 -- a device's level

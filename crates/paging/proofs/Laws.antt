@@ -9,7 +9,7 @@ use mathlib.Core.List.{List}
 use lib.ListN.{getD, set}
 use lib.Dec.{ltb, eqb}
 use borrow.Author.Tests.{ltb-true, eq-eqb, ne-eqb}
-use Rattle.isa.specs.Machine.{bit}
+use Rattle.isa.specs.Machine.{tableWords, bit}
 use Rattle.isa.specs.Pages.{Entry, entryOf, entryAt, slotOf, somePermit, needed, ringAllows, physical, pagingStatus}
 use Rattle.isa.specs.Pages.{inMemory, inTables, withinMemory, judged, tableOf, inWindow, translate, passes, markOf}
 use Rattle.isa.specs.Pages.{marked}
@@ -157,7 +157,7 @@ memory-within words Read p h = h
 memory-within words Write p h = h
 memory-within words Indirect p h = h
 
-tables-within : (words : ℕ) (k : AccessKind) (i : ℕ) → i < 256 → Within words (inTables k i)
+tables-within : (words : ℕ) (k : AccessKind) (i : ℕ) → i < tableWords → Within words (inTables k i)
 tables-within words Fetch i h = h
 tables-within words Read i h = h
 tables-within words Write i h = h

@@ -2,6 +2,7 @@
 use Prim.Native.Nat.{ℕ, _<_}
 use mathlib.Core.Bool.{Bool, true, false}
 use mathlib.Core.List.{List, [], _∷_}
+use Rattle.isa.specs.Machine.{tableWords}
 use Rattle.isa.specs.declared.access.Translation.{Translation}
 use Rattle.isa.specs.declared.access.Translation.the-variants.{NoAccess, Load, Store, LoadTable, StoreTable}
 use Rattle.isa.specs.declared.access.Translation.the-variants.{Protection, PageFault, OutOfRange}
@@ -10,8 +11,8 @@ abbrev pub Within : ℕ → Translation → Type 0
 Within words NoAccess = Unit {0}
 Within words (Load p) = p < words
 Within words (Store p) = p < words
-Within words (LoadTable i) = i < 256
-Within words (StoreTable i) = i < 256
+Within words (LoadTable i) = i < tableWords
+Within words (StoreTable i) = i < tableWords
 Within words (Protection g) = Unit {0}
 Within words (PageFault g) = Unit {0}
 Within words OutOfRange = Unit {0}

@@ -1,6 +1,7 @@
 // A page table's entry: where it stands, its permits, its marks, and the status that names it.
 ghost use mathlib.Core.Path.{_≡_};
 ghost use Prim.Native.Nat.{_<_};
+ghost use Rattle.isa.specs.Machine.{tableWords};
 ghost use Rattle.isa.specs.Pages.{entryOf, needed, somePermit, pagingStatus, markOf, slotOf, tableOf};
 use isa::access::AccessKind;
 use isa::access::Rights;
@@ -27,7 +28,7 @@ pub fn some_permit(e: u16) -> bool
 // PGS after a failed access by the entry at the slot.
 pub fn status(k: AccessKind, missing: u16, slot: u16) -> u16
     requires { ⌜ missing < 16385 ⌝ }
-    requires { ⌜ slot < 256 ⌝ }
+    requires { ⌜ slot < tableWords ⌝ }
     ensures { λ n. ⌜ n ≡ pagingStatus k missing slot ⌝ }
 {
     match k {
@@ -54,7 +55,7 @@ pub fn mark(k: AccessKind, e: u16) -> u16
 pub fn slot_of(r: Rights, alternate: bool, a: u16) -> u16
     requires { ⌜ (r .normal < 4) × (r .alternate < 4) ⌝ }
     ensures { λ i. ⌜ i ≡ slotOf (tableOf r alternate) a ⌝ }
-    ensures { λ i. ⌜ i < 256 ⌝ }
+    ensures { λ i. ⌜ i < tableWords ⌝ }
 {
     if alternate {
         return r.alternate * 64 + a / 1024 % 64;

@@ -47,7 +47,7 @@ fn in_tables(k: AccessKind, i: usize) -> Translation
 
 // The needed permit is missing: no permit at all is a page fault.
 fn refused(e: u16, k: AccessKind, slot: u16) -> Translation
-    requires { ⌜ slot < 256 ⌝ }
+    requires { ⌜ slot < tableWords ⌝ }
     ensures { λ x. ⌜ x ≡ cond (not (somePermit (entryOf e))) (PageFault (pagingStatus k 16384 slot))
         (Protection (pagingStatus k 16384 slot)) ⌝ }
 {
@@ -67,7 +67,7 @@ fn looked_up(
     slot: u16,
     a: u16,
 ) -> Translation
-    requires { ⌜ slot < 256 ⌝ }
+    requires { ⌜ slot < tableWords ⌝ }
     requires { ⌜ length (now tables) ≡ tableWords ⌝ }
     ensures { λ x. ⌜ x ≡ judged (entryAt (now (tables .entry)) slot) slot words ring k a ⌝ }
     ensures { λ x. ⌜ now (tables .exit)

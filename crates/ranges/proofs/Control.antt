@@ -8,6 +8,7 @@ use lib.Dec.{eqb, ltb}
 use lib.Pow.{pow-lt}
 use lib.Bits.{bitAnd, bitOr, and-lt, or-lt}
 use borrow.Author.Tests.{ltb-true}
+use Rattle.isa.specs.Machine.{levelCount}
 use Rattle.isa.specs.Machine.{bit, withBit, reg, withFile, withControl, nextCore, ringOf, interruptMask, pcrMask}
 use Rattle.isa.specs.Flags.{complement}
 use Rattle.isa.specs.System.{highestIn, withSwitches, withLevels, withInternal, withPid, withPie, waited}
@@ -57,7 +58,7 @@ pub record ControlFits (k : Control) : Type 0 where
   pub stopped : k .stopped < 2
   pub pid : k .pid < 65536
   pub pie : k .pie < 65536
-  pub pvl : k .pvl < 16
+  pub pvl : k .pvl < levelCount
   pub iid : InterruptFits (k .iid)
   pub iie : InterruptFits (k .iie)
   pub pgs : PgsFits (k .pgs)
@@ -85,7 +86,7 @@ switches-fit q i p h a b c = record {
 }
 
 -- PID, PIE and PVL
-pub levels-fit : {k : Control} → ControlFits k → (d e v : ℕ) → d < 65536 → e < 65536 → v < 16
+pub levels-fit : {k : Control} → ControlFits k → (d e v : ℕ) → d < 65536 → e < 65536 → v < levelCount
     → ControlFits (withLevels k d e v)
 levels-fit q d e v a b c = record {
   interrupts = q .interrupts;
@@ -182,7 +183,7 @@ highest-below (suc n) w =
     either (λ (v : ℕ). v < suc (suc n)) (eqb (bit (suc n) w) 1) (omega arith) (omega arith)
 
 -- what TRA gives is a word
-internal-word : (l : ℕ) {c : Core} → l < 16 → CoreFits c → (r : Readable) → internalWord l c r < 65536
+internal-word : (l : ℕ) {c : Core} → l < levelCount → CoreFits c → (r : Readable) → internalWord l c r < 65536
 internal-word l {c} h q Status =
     let f : reg (c .file) Sts < 256 = sts-flags (q .file) in
     let i = q .control .interrupts in
@@ -206,7 +207,7 @@ reading-fits q Pie = q
 reading-fits q Actl = q
 
 -- TRA
-read-fits : (l : ℕ) {c : Core} → l < 16 → CoreFits c → (r : Readable) → CoreFits (read l c r)
+read-fits : (l : ℕ) {c : Core} → l < levelCount → CoreFits c → (r : Readable) → CoreFits (read l c r)
 read-fits l h q r =
     record {
       file = with-word (q .file) A refl (internal-word l h q r);
@@ -245,14 +246,14 @@ switched-fits {c} q i p a b =
     control-fits q (switches-fit (q .control) i p (c .control .stopped) a b (q .control .stopped))
 
 -- WAIT
-waited-fits : (l : ℕ) {k : Control} → l < 16 → ControlFits k → ControlFits (waited l k)
+waited-fits : (l : ℕ) {k : Control} → l < levelCount → ControlFits k → ControlFits (waited l k)
 waited-fits l {k} h q =
     either ControlFits (eqb (k .interrupts) 1)
     (either ControlFits (eqb l 0) q (pid-fits q (bit-below 16 l 0 (k .pid) h (omega arith) (q .pid))))
     (switches-fit q (k .interrupts) (k .paging) 1 (q .interrupts) (q .paging) (omega arith))
 
 -- each of them at level l
-pub controlled-fits : (l : ℕ) {c : Core} → l < 16 → CoreFits c → (o : ControlOp) → CoreFits (controlled l c o)
+pub controlled-fits : (l : ℕ) {c : Core} → l < levelCount → CoreFits c → (o : ControlOp) → CoreFits (controlled l c o)
 controlled-fits l {c} h q Ion = switched-fits q 1 (c .control .paging) (omega arith) (q .control .paging)
 controlled-fits l {c} h q Iof = switched-fits q 0 (c .control .paging) (omega arith) (q .control .paging)
 controlled-fits l {c} h q Pon = switched-fits q (c .control .interrupts) 1 (q .control .interrupts) (omega arith)

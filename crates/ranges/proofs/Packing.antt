@@ -1,6 +1,6 @@
 -- The running level taken out of a state and put back, and what leaves the level, all in range.
 -- Assumes nothing.
-use Rattle.isa.specs.Machine.{registerWords}
+use Rattle.isa.specs.Machine.{levelCount, registerWords}
 use Prim.Native.Nat.{ℕ, suc, _+_, _*_, _%_, _<_}
 use native.Mathlib.Omega.{arith}
 use mathlib.Core.Path.{_≡_, refl, sym, subst, _∙_}
@@ -43,7 +43,7 @@ in-regs : (l i v : ℕ) → Fits i v → Fits (l * 8 + i) v
 in-regs l i v h = record { word = h .word; flags = λ e. h .flags (omega arith) }
 
 -- a level's file taken out
-file-at-fits : (b : List ℕ) (l : ℕ) → l < 16 → length b ≡ registerWords → Each Fits b → FileFits (fileAt b l)
+file-at-fits : (b : List ℕ) (l : ℕ) → l < levelCount → length b ≡ registerWords → Each Fits b → FileFits (fileAt b l)
 file-at-fits b l k n h = record {
   each = subst (Each Fits) (sym (words-at b l k n))
       (take-each Fits 8 (drop (l * 8) b) (λ i. record { word = omega arith; flags = λ e. omega arith })
@@ -59,7 +59,7 @@ core-fits {s} h = record {
 }
 
 -- a level's file put back
-put-each : (b : List ℕ) (l : ℕ) (f : File) → l < 16 → length b ≡ registerWords → Each Fits b → FileFits f
+put-each : (b : List ℕ) (l : ℕ) (f : File) → l < levelCount → length b ≡ registerWords → Each Fits b → FileFits f
     → Each Fits (putFile b l f)
 unfolding putFile
 put-each b l f k n q h =

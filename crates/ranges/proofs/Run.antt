@@ -7,7 +7,7 @@ use mathlib.Core.List.{List}
 use native.Mathlib.Omega.{arith}
 use lib.ListN.{length, replicate}
 use lib.Dec.{eqb}
-use Rattle.isa.specs.Machine.{Words, stateOf, inRange}
+use Rattle.isa.specs.Machine.{registerWords, controlCount, tableWords, Words, stateOf, inRange}
 use Rattle.isa.specs.Step.{Turn, step, isStopped, changeDue}
 use Rattle.isa.specs.Run.{Run, runFrom}
 use Rattle.isa.specs.declared.machine.State.{State}
@@ -26,7 +26,8 @@ zeros-words zero = nil-words
 zeros-words (suc n) = cons-words 0 (replicate n 0) (omega arith) (zeros-words n)
 
 -- a cleared machine with memory of any size is sound, so the laws below speak of some machines
-pub cleared-sound : (n : ℕ) → Sound (stateOf (replicate 128 0) (replicate 26 0)) (replicate n 0) (replicate 256 0)
+pub cleared-sound : (n : ℕ)
+    → Sound (stateOf (replicate registerWords 0) (replicate controlCount 0)) (replicate n 0) (replicate tableWords 0)
 unfolding inRange
 cleared-sound n = record {
   typed =

@@ -21,7 +21,7 @@ use Rattle.ranges.proofs.Control.{InterruptFits, PcrFits, ControlFits}
 
 -- the parts of a state
 pub record StateFits (s : State) : Type 0 where
-  pub level : s .level < 16
+  pub level : s .level < levelCount
   pub regs-length : length (s .regs) ≡ registerWords
   pub regs : Each Fits (s .regs)
   pub control : ControlFits (s .control)

@@ -8,7 +8,7 @@ use mathlib.Core.List.{List}
 use lib.ListN.{getD, set, length}
 use lib.Dec.{ltb, eqb}
 use lib.Bits.{bitAnd}
-use Rattle.isa.specs.Machine.{Words, reg, coreOf}
+use Rattle.isa.specs.Machine.{levelCount, Words, reg, coreOf}
 use Rattle.isa.specs.Instructions.{indirectRequest, request, complete, Completed}
 use Rattle.isa.specs.Pages.{translate, marked, testAll, Tested, passes, wordAt, wordsAt, rightsOf}
 use Rattle.isa.specs.Step.{Part, part, failed, trapped, finishedCore, finished, operandsTested, operands}
@@ -137,7 +137,7 @@ left-fits : {c : Core} → CoreFits c → (x : Far) (m t : List ℕ) → FarFits
 left-fits h x m t f k = record { core = h; far = f; lent = k }
 
 -- each of them
-system-fits : (l : ℕ) {c : Core} → l < 16 → CoreFits c → (m t : List ℕ) (o : System) → LentFits m t
+system-fits : (l : ℕ) {c : Core} → l < levelCount → CoreFits c → (m t : List ℕ) (o : System) → LentFits m t
     → PartFits (systemStage l c m t o)
 system-fits l a h m t (ControlOf o) k = record { core = controlled-fits l a h o; far = tt; lent = k }
 system-fits l a h m t TraPgc k = left-fits h ReadPcr m t tt k
@@ -155,7 +155,7 @@ system-fits l a h m t (Ident n) k = trapped-fits 7 (omega arith) (omega arith) h
 -- ---- fetch and execute
 
 -- a decoded instruction
-instruction-fits : (l : ℕ) {c : Core} → l < 16 → CoreFits c → (m t : List ℕ) (i : Instruction)
+instruction-fits : (l : ℕ) {c : Core} → l < levelCount → CoreFits c → (m t : List ℕ) (i : Instruction)
     → LentFits m t → PartFits (instructionStage l c m t i)
 unfolding instructionStage
 instruction-fits l a h m t (Unprivileged u) k = user-fits h m t u k
@@ -179,7 +179,7 @@ after-fetch-fits h ring (PageFault g) = h
 after-fetch-fits h ring OutOfRange = h
 
 -- the word fetched, or the fetch failed
-fetched-fits : (l : ℕ) {c : Core} → l < 16 → CoreFits c → (m t : List ℕ) (ring : ℕ) (x : Translation)
+fetched-fits : (l : ℕ) {c : Core} → l < levelCount → CoreFits c → (m t : List ℕ) (ring : ℕ) (x : Translation)
     → FaultFits x → LentFits m t → PartFits (fetched l c m t ring x)
 unfolding fetched
 fetched-fits l {c} a h m t ring x f k =
@@ -188,7 +188,8 @@ fetched-fits l {c} a h m t ring x f k =
     (λ e. failed-fits h x m t e f k)
 
 -- the running level
-pub step-in-fits : (l : ℕ) {c : Core} → l < 16 → CoreFits c → (m t : List ℕ) → LentFits m t → PartFits (stepIn l c m t)
+pub step-in-fits : (l : ℕ) {c : Core} → l < levelCount → CoreFits c → (m t : List ℕ) → LentFits m t
+    → PartFits (stepIn l c m t)
 unfolding stepIn
 step-in-fits l {c} a h m t k =
     fetched-fits l a h m (marked t (length m) (rightsOf c) (fetchOf c))

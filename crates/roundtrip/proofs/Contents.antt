@@ -1,6 +1,6 @@
 -- What load finds in an image that write gave: four full entries, and the bodies one after the other.
 -- Assumes nothing.
-use Rattle.isa.specs.Machine.{levelCount, registerWords, tableWords}
+use Rattle.isa.specs.Machine.{controlCount, levelCount, registerWords, tableWords}
 use Prim.Native.Nat.{ℕ, _+_, _≤_}
 use mathlib.Core.Path.{_≡_, refl, sym, ap, _∙_}
 use mathlib.Core.List.{List, [], _∷_, _++_, append-nil}
@@ -48,7 +48,7 @@ module _ (s : State) (m t : List ℕ) where
 
   module _ (hr : length (s .regs) ≡ registerWords) (hp : length (s .pcr) ≡ levelCount)
       (ht : length t ≡ tableWords) where
-    control-length : length (controlWords s) ≡ 26
+    control-length : length (controlWords s) ≡ controlCount
     control-length = omega (arith, hp)
 
     pub bodies-length : length (m ++ afterMemory) ≡ length m + 410
@@ -86,17 +86,19 @@ module _ (s : State) (m t : List ℕ) where
     pub loaded-registers : loadedWords 2 128 (imageOf s m t) ≡ s .regs
     loaded-registers =
         by-four 2 128
-        ∙ ap (λ (b : List ℕ). paste (replicate 128 0) 0 b 128) dropped-memory
-        ∙ fill 128 (replicate 128 0) (s .regs) (controlWords s ++ t) (length-replicate {A = ℕ} 128 0) hr
+        ∙ ap (λ (b : List ℕ). paste (replicate registerWords 0) 0 b registerWords) dropped-memory
+        ∙ fill registerWords (replicate registerWords 0) (s .regs) (controlWords s ++ t)
+        (length-replicate {A = ℕ} registerWords 0) hr
 
     pub loaded-control : loadedWords 3 26 (imageOf s m t) ≡ controlWords s
     loaded-control =
         by-four 3 26
-        ∙ ap (λ (b : List ℕ). paste (replicate 26 0) 0 b 26) dropped-registers
-        ∙ fill 26 (replicate 26 0) (controlWords s) t (length-replicate {A = ℕ} 26 0) control-length
+        ∙ ap (λ (b : List ℕ). paste (replicate controlCount 0) 0 b controlCount) dropped-registers
+        ∙ fill controlCount (replicate controlCount 0) (controlWords s) t
+        (length-replicate {A = ℕ} controlCount 0) control-length
 
     pub loaded-tables : loadedWords 4 256 (imageOf s m t) ≡ t
     loaded-tables =
         by-four 4 256
-        ∙ ap (λ (b : List ℕ). paste (replicate 256 0) 0 b 256) (dropped-control ∙ sym (append-nil t))
-        ∙ fill 256 (replicate 256 0) t [] (length-replicate {A = ℕ} 256 0) ht
+        ∙ ap (λ (b : List ℕ). paste (replicate tableWords 0) 0 b tableWords) (dropped-control ∙ sym (append-nil t))
+        ∙ fill tableWords (replicate tableWords 0) t [] (length-replicate {A = ℕ} tableWords 0) ht

@@ -11,6 +11,7 @@ use lib.Seq.{take-at}
 use lib.Dec.{eqb}
 use borrow.Author.Tests.{le-ltb, lt-ltb, le-leb, eq-eqb, eqb-true}
 use Rattle.isa.specs.Machine.{stateOf, sizesFit, memorySize, inRange}
+use Rattle.isa.specs.Images.{besideMemory, contentsSize}
 use Rattle.isa.specs.Images.{contentsFit, contents, bodies, entriesAnswer, meets, namedWords, loadedState}
 use Rattle.isa.specs.Images.{loadedWords, contentsWords, imageOf, imageSize}
 use Rattle.isa.specs.Answers.{LoadCall, loadCall, loadCallBy, loadAnswer, stateAnswer, writeAnswer, writtenOutput}
@@ -58,19 +59,19 @@ module _ (s : State) (m t : List ℕ) (h : Machine s m t) where
   unfolding sizesFit
   tables-length = eqb-true (length t) 256 (and-right (memorySize (length m)) (eqb (length t) 256) (h .sizes))
 
-  image-length : length (imageOf s m t) ≡ length m + 431
+  image-length : length (imageOf s m t) ≡ length m + besideMemory
   unfolding imageOf
   image-length = length-append (contentsWords (length m)) (m ++ afterMemory s m t) ∙ e
     where
-      e : 21 + length (m ++ afterMemory s m t) ≡ length m + 431
+      e : contentsSize + length (m ++ afterMemory s m t) ≡ length m + besideMemory
       e = omega (arith, bodies-length s m t (h .typed .regs-length) (h .typed .pcr-length) tables-length)
 
   image-fits : contentsFit (imageOf s m t) ≡ true
   unfolding contentsFit
   image-fits =
       rw (entry-count s m t, image-length)
-      (and-both (and-both (lt-ltb 0 (length m + 431) (omega arith)) refl)
-      (le-leb 21 (length m + 431) (omega arith)))
+      (and-both (and-both (lt-ltb 0 (length m + besideMemory) (omega arith)) refl)
+      (le-leb contentsSize (length m + besideMemory) (omega arith)))
 
   loaded-state : loadedState (imageOf s m t) ≡ s
   loaded-state =

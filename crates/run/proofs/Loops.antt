@@ -6,7 +6,7 @@ use mathlib.Core.Bool.{Bool, true, false, cond, not, _&&_}
 use mathlib.Core.List.{List}
 use native.Mathlib.Omega.{arith}
 use lib.Dec.{eqb}
-use Rattle.isa.specs.Machine.{pack}
+use Rattle.isa.specs.Machine.{levelCount, pack}
 use Rattle.isa.specs.Step.{Turn, turn, step, isStopped}
 use Rattle.isa.specs.Run.{ended, runFrom}
 use Rattle.isa.proofs.Runs.{run-stopped}
@@ -37,7 +37,7 @@ Ended first n s m t w k r =
 -- what run_in answers
 abbrev pub Answered : ℕ → Bool → State → List ℕ → List ℕ → List ℕ → List ℕ → List ℕ → List ℕ → LoopEnd → Type 0
 Answered n first s m t regs pcrs m' t' r =
-    (r .level < 16) × Ended first n s m t (r .reason) (r .steps)
+    (r .level < levelCount) × Ended first n s m t (r .reason) (r .steps)
     (turn (pack (r .level) (r .core) regs pcrs) (r .gave) m' t')
 
 -- a run to the first interrupt is not a run through

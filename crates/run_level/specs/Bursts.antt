@@ -18,7 +18,7 @@ use Rattle.run_level.specs.declared.Burst.{Burst}
 
 -- the words of all levels: their number, and a level among them
 pub record Levels (l : ℕ) (regs pcrs : List ℕ) : Type 0 where
-  pub level : l < 16
+  pub level : l < levelCount
   pub registers : length regs ≡ registerWords
   pub controls : length pcrs ≡ levelCount
 

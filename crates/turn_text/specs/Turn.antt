@@ -4,7 +4,7 @@ use mathlib.Core.Bool.{false, cond, not}
 use mathlib.Core.List.{List}
 use lib.ListN.{getD, length, replicate}
 use lib.Dec.{ltb, eqb}
-use Rattle.isa.specs.Machine.{fileSize, registerWords, controlCount, number, fileAt, stateOf}
+use Rattle.isa.specs.Machine.{tableWords, fileSize, registerWords, controlCount, number, fileAt, stateOf}
 use Rattle.isa.specs.Answers.{LoadCall, loadCall, runCall}
 use Rattle.isa.specs.declared.machine.Register.{Register}
 use Rattle.isa.specs.declared.machine.State.{State}
@@ -57,4 +57,4 @@ unfoldable pub turned : List ℕ → Turned
 turned bytes =
     cond (ltb 65536 (length bytes)) (Refused Bodies)
     (cond (not (eqb (length bytes % 2) 0)) (Refused Bodies)
-    (imageTurned (bytesAsWords bytes) (replicate 16384 0) (replicate 256 0)))
+    (imageTurned (bytesAsWords bytes) (replicate 16384 0) (replicate tableWords 0)))

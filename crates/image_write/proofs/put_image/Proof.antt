@@ -1,6 +1,6 @@
 -- The image: contents and memory, state, page tables.
 -- Assumes nothing.
-use Rattle.isa.specs.Machine.{levelCount, registerWords}
+use Rattle.isa.specs.Machine.{stateWords, levelCount, registerWords}
 use mathlib.Core.List.{_++_}
 use mathlib.Core.Path.{_≡_, refl, sym, _∙_}
 use native.Mathlib.Omega.{arith}
@@ -39,7 +39,8 @@ returns c =
     let s = start .args .s in
     let e : length (s .regs) ≡ registerWords = sym (length-map (s .regs) _) ∙ start .good .0 .1 .1 .0 .1 .0 .1 in
     let g : length (s .pcr) ≡ levelCount = sym (length-map (s .pcr) _) ∙ start .good .0 .1 .1 .1 .1 .1 .0 .1 .0 .1 in
-    let w : length (s .regs ++ controlWords s) ≡ 154 = length-append (s .regs) (controlWords s) ∙ omega (arith, e, g) in
+    let w : length (s .regs ++ controlWords s) ≡ stateWords =
+    length-append (s .regs) (controlWords s) ∙ omega (arith, e, g) in
     image-put s (start .args .mem .now) (start .args .tables .now) (start .args .out .now)
     (at-put-memory .put-memory .last .1 .0) (at-put-state .put-state .last .1 .0) (at-copy .copy .last .0)
     (length (start .args .mem .now)) refl w (start .pre .1 .0) (at-put-memory .put-memory .ensures)

@@ -1,6 +1,6 @@
 -- Put over all the lent words.
 -- Assumes nothing.
-use Rattle.isa.specs.Machine.{levelCount, registerWords}
+use Rattle.isa.specs.Machine.{stateWords, levelCount, registerWords}
 use mathlib.Core.Path.{_≡_, sym, _∙_}
 use native.Mathlib.Omega.{arith}
 use lib.ListN.{length, length-map, length-append}
@@ -24,8 +24,9 @@ returns c =
     let s = k .args .s in
     let regs : length (s .regs) ≡ registerWords = sym (length-map (s .regs) _) ∙ k .good .0 .1 .1 .0 .1 .0 .1 in
     let pcrs : length (s .pcr) ≡ levelCount = sym (length-map (s .pcr) _) ∙ k .good .0 .1 .1 .1 .1 .1 .0 .1 .0 .1 in
-    let all : length (stateOrdered s) ≡ 154 = length-append (s .regs) (controlWords s) ∙ omega (arith, regs, pcrs) in
-    putting .put-state .ensures ∙ copied-rest 0 154 (stateOrdered s) (k .args .words .now) all (k .pre)
+    let all : length (stateOrdered s) ≡ stateWords =
+    length-append (s .regs) (controlWords s) ∙ omega (arith, regs, pcrs) in
+    putting .put-state .ensures ∙ copied-rest 0 stateWords (stateOrdered s) (k .args .words .now) all (k .pre)
 
 pub put-state-spec : {M : Type 1} → statement M
 put-state-spec = tie.close (tie.spec put-state-requires same-length returns)

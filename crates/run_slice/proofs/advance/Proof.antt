@@ -23,7 +23,7 @@ change-due-requires c κs = search needs
 -- a level, and the words of all levels
 changed-requires : tie.Need-changed-requires
 changed-requires c κs =
-    let k = started (c .before .before .before .before) in
+    let k = started (c .before .before .before) in
     (k .pre .0 .level, (k .pre .0 .registers, k .pre .0 .controls))
 
 same-length : tie.Need-same-length

@@ -8,6 +8,7 @@ use lib.Seq.{length-take-le}
 use borrow.Author.Tests.{lt-ltb, le-ltb, eq-eqb, ne-eqb}
 use Rattle.turn_text.specs.Turn.{imageTurned, turned}
 use borrow.Author.Needs.{needs}
+use Rattle.isa.specs.Machine.{tableWords}
 use Rattle.turn_text.proofs.turn.Statement.{statement}
 use Rattle.turn_text.proofs.turn.Tie as tie
 
@@ -58,7 +59,7 @@ returns-3 c =
     let length-tested = put .before .before .before in
     let b = length-tested .before .before .args .input .now in
     at-run-image .run-image .ensures
-    ∙ ap (λ (i : List ℕ). imageTurned i (replicate 16384 0) (replicate 256 0)) (put .put-words .ensures .1)
+    ∙ ap (λ (i : List ℕ). imageTurned i (replicate 16384 0) (replicate tableWords 0)) (put .put-words .ensures .1)
     ∙ simp (
       le-ltb 65536 (length b) (length-tested .if1 .left),
       eq-eqb (length b % 2) 0 (put .before .before .if2 .left),

@@ -2,14 +2,15 @@
 -- Assumes nothing.
 use Prim.Native.Nat.{_≤_, _-_}
 use borrow.Author.Needs.{needs}
+use Rattle.isa.specs.Machine.{stateWords}
 use Rattle.cases.proofs.base.base_state.Statement.{statement}
 use Rattle.cases.proofs.base.base_state.Tie as tie
 
 abbrev Inv-loop : tie.InvT-loop
-Inv-loop flat₀ i₀ flat i = i ≤ 154
+Inv-loop flat₀ i₀ flat i = i ≤ stateWords
 
 abbrev μ-loop : tie.MeasureT-loop
-μ-loop flat₀ i₀ flat i = 154 - i
+μ-loop flat₀ i₀ flat i = stateWords - i
 
 loop-holds : tie.Need-loop-holds Inv-loop μ-loop
 loop-holds c = search needs

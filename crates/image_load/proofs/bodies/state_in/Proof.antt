@@ -2,7 +2,7 @@
 -- Assumes nothing.
 use mathlib.Core.Path.{refl, _∙_}
 use lib.ListN.{replicate}
-use Rattle.isa.specs.Machine.{stateOf}
+use Rattle.isa.specs.Machine.{registerWords, controlCount, stateOf}
 use Rattle.image_load.proofs.Placed.{copied-front, copied-rest}
 use borrow.Author.Needs.{needs}
 use Rattle.image_load.proofs.bodies.state_in.Statement.{statement}
@@ -29,8 +29,9 @@ returns c =
     let first = second .before .before .before in
     let start = first .before .before .before in
     let w = start .args .words .now in
-    let regs = first .copy .ensures ∙ copied-front 128 w (replicate 128 0) refl in
-    let control = second .copy2 .ensures ∙ copied-rest 128 26 w (replicate 26 0) (start .pre) refl in
+    let regs = first .copy .ensures ∙ copied-front registerWords w (replicate registerWords 0) refl in
+    let control = second .copy2 .ensures
+    ∙ copied-rest registerWords controlCount w (replicate controlCount 0) (start .pre) refl in
     c .state-of .ensures ∙ (λ i. stateOf (regs i) (control i))
 
 pub state-in-spec : {M : Type 1} → statement M

@@ -3,6 +3,7 @@
 use mathlib.Core.Path.{_≡_, refl, _∙_}
 use lib.ListN.{length, replicate}
 use borrow.Author.Needs.{needs}
+use Rattle.isa.specs.Machine.{controlCount}
 use Rattle.image_load.proofs.Placed.{copied-rest}
 use Rattle.image_load.proofs.bodies.state_of.Statement.{statement}
 use Rattle.image_load.proofs.bodies.state_of.Tie as tie
@@ -49,7 +50,7 @@ array-read-t13-2 c = search needs
 returns : tie.Need-returns
 returns c =
     let start = c .before .before .before .before in
-    let e : length (start .args .t2) ≡ 26 = search needs in
+    let e : length (start .args .t2) ≡ controlCount = search needs in
     simp (c .before .copy .ensures ∙ copied-rest 10 16 (start .args .t2) (replicate 16 0) e refl)
 
 pub state-of-spec : {M : Type 1} → statement M

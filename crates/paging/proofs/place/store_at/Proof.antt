@@ -5,6 +5,7 @@ use native.Mathlib.Omega.{arith}
 use mathlib.Core.Path.{subst}
 use lib.ListN.{length}
 use borrow.Author.Needs.{needs}
+use Rattle.isa.specs.Machine.{tableWords}
 use Rattle.paging.specs.Within.{Within}
 use Rattle.paging.proofs.place.store_at.Statement.{statement}
 use Rattle.paging.proofs.place.store_at.Tie as tie
@@ -42,7 +43,7 @@ enum-known-x-2 c = search needs
 mul-tables : tie.Need-mul-tables
 mul-tables c =
     let start = c .before .before .before in
-    let h : c .before .x2 .given .0 .0 < 256 =
+    let h : c .before .x2 .given .0 .0 < tableWords =
     subst (Within (length (start .args .mem .now))) (c .before .x2 .given .1) (start .pre .0) in
     omega arith
 
@@ -50,7 +51,7 @@ mul-tables c =
 slice-write-tables : tie.Need-slice-write-tables
 slice-write-tables c =
     let start = c .before .before .before in
-    let h : c .before .x2 .given .0 .0 < 256 =
+    let h : c .before .x2 .given .0 .0 < tableWords =
     subst (Within (length (start .args .mem .now))) (c .before .x2 .given .1) (start .pre .0) in
     omega arith
 

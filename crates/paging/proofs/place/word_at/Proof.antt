@@ -5,6 +5,7 @@ use native.Mathlib.Omega.{arith}
 use mathlib.Core.Path.{subst}
 use lib.ListN.{length}
 use borrow.Author.Needs.{needs}
+use Rattle.isa.specs.Machine.{tableWords}
 use Rattle.paging.specs.Within.{Within}
 use Rattle.paging.proofs.place.word_at.Statement.{statement}
 use Rattle.paging.proofs.place.word_at.Tie as tie
@@ -39,7 +40,7 @@ enum-known-x-2 c = search needs
 mul-result-2 : tie.Need-mul-result-2
 mul-result-2 c =
     let start = c .before .before .before in
-    let h : c .before .x2 .given .0 .0 < 256 =
+    let h : c .before .x2 .given .0 .0 < tableWords =
     subst (Within (length (start .args .mem .now))) (c .before .x2 .given .1) (start .pre .0) in
     omega arith
 
@@ -47,7 +48,7 @@ mul-result-2 c =
 shared-slice-read-result-2 : tie.Need-shared-slice-read-result-2
 shared-slice-read-result-2 c =
     let start = c .before .before .before .before in
-    let h : c .before .before .x2 .given .0 .0 < 256 =
+    let h : c .before .before .x2 .given .0 .0 < tableWords =
     subst (Within (length (start .args .mem .now))) (c .before .before .x2 .given .1) (start .pre .0) in
     omega arith
 
