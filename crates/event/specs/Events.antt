@@ -38,15 +38,15 @@ abbrev pub endingOf : Completed → Ending
 endingOf k = record { file = k .file; event = cond (k .error) Error Fine }
 
 -- the event e, where a privileged instruction needs a ring that may execute it
-unfoldable pub permitted : Bool → Event → Event
-permitted b Fine = Fine
-permitted b (Failed x) = Failed x
-permitted b Error = Error
-permitted b (Privileged q) = cond b (Privileged q) NotPrivileged
-permitted b NotPrivileged = NotPrivileged
-permitted b (Monitor n) = Monitor n
-permitted b Illegal = Illegal
+unfoldable pub byPrivilege : Bool → Event → Event
+byPrivilege b Fine = Fine
+byPrivilege b (Failed x) = Failed x
+byPrivilege b Error = Error
+byPrivilege b (Privileged q) = cond b (Privileged q) NotPrivileged
+byPrivilege b NotPrivileged = NotPrivileged
+byPrivilege b (Monitor n) = Monitor n
+byPrivilege b Illegal = Illegal
 
 -- what the ending e leaves at level l, in the core c
 abbrev pub endedPart : ℕ → Core → Ending → List ℕ → List ℕ → Part
-endedPart l c e m t = eventPart l (withFile c (e .file)) m t (permitted (privileged c) (e .event))
+endedPart l c e m t = eventPart l (withFile c (e .file)) m t (byPrivilege (privileged c) (e .event))

@@ -1,7 +1,7 @@
 // How a step of the running level ends.
 ghost use mathlib.Core.Path.{_≡_};
 ghost use mathlib.Core.Bool.{not};
-ghost use Rattle.event.specs.Events.{isFine, permitted};
+ghost use Rattle.event.specs.Events.{isFine, byPrivilege};
 ghost use Rattle.event.specs.declared.Event.the-variants.{Fine};
 use isa::access::Translation;
 use isa::instruction::System;
@@ -56,8 +56,8 @@ pub fn ends(e: Event) -> bool
 }
 
 // The event, where a privileged instruction needs that the ring is privileged.
-pub fn permitted(privileged: bool, e: Event) -> Event
-    ensures { λ r. ⌜ r ≡ permitted privileged e ⌝ }
+pub fn by_privilege(privileged: bool, e: Event) -> Event
+    ensures { λ r. ⌜ r ≡ byPrivilege privileged e ⌝ }
 {
     match e {
         Event::Fine => e,

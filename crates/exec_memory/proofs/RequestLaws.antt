@@ -39,7 +39,7 @@ use Rattle.exec_address.specs.Requests.{requestOf, completionOf, changeOf, word
 use Rattle.exec_address.specs.declared.request.Request.{Request}
 use Rattle.exec_address.specs.declared.request.Request.the-variants.{Several}
 use Rattle.memory_words.specs.declared.location.Location.{Location}
-use Rattle.event.specs.Events.{eventPart, permitted, endedPart}
+use Rattle.event.specs.Events.{eventPart, byPrivilege, endedPart}
 use Rattle.event.specs.declared.Ending.{Ending}
 use Rattle.event.specs.declared.Event.the-variants.{Fine, Failed}
 use Rattle.exec_memory.specs.Served.{accessesOf, severalKind, accessedBy, Served, afterExchange}
@@ -128,7 +128,7 @@ fine-part : (l : ℕ) (c : Core) {g : File} {e : Ending} (m t : List ℕ) (ps : 
     {m' t' : List ℕ}
     → e ≡ record { file = g; event = Fine } → g ≡ k .file → k .error ≡ false → lent m' t' ≡ storeAll m t ps (k .stores)
     → endedPart l c e m' t' ≡ finished c m t ps k
-unfolding eventPart permitted finished
+unfolding eventPart byPrivilege finished
 fine-part l c m t ps k y h n s =
     rw (y, h, n) (ap (λ (i : Lent). part (withFile c (k .file)) 0 Nothing (i .memory) (i .tables)) s)
 
@@ -172,7 +172,7 @@ module _ (f : File) (m : List ℕ) {t : List ℕ} (q : Request) (x : Location) {
 
   -- one failed
   pub fails : passes z ≡ false → {e : Ending} → e ≡ record { file = f; event = Failed z } → Served f q x m t e m u
-  unfolding eventPart permitted
+  unfolding eventPart byPrivilege
   fails p y l c h =
       let r : Tested = testAll t (length m) (x .rights) xs in
       let d = tested-failed c m (completionOf q (next (c .file)) (x .address)) r (o .tables) (o .failed) p in

@@ -55,14 +55,14 @@ use Rattle.paging.proofs.Levels.{same-ring}
 use Rattle.paging.specs.Levels.{levelRights}
 use Rattle.paging.specs.Outcome.{Outcome}
 use Rattle.memory_words.specs.declared.location.Location.{Location}
-use Rattle.event.specs.Events.{eventPart, endingOf, permitted, endedPart}
+use Rattle.event.specs.Events.{eventPart, endingOf, byPrivilege, endedPart}
 use Rattle.event.specs.declared.Ending.{Ending}
 use Rattle.event.specs.declared.Event.{Event}
 use Rattle.event.specs.declared.Event.the-variants.{Fine, Error, Failed as Faulted}
 use Rattle.exec_memory.specs.Served.{Executing, accessesOf, accessedBy, requested, Served}
 use Rattle.exec_memory.proofs.RequestLaws.{request-serves}
 use Rattle.exec_memory.specs.Stages.{ExecutingAt, ByIndirect, Addressed, UserStage, byteLocation, addressed}
-use Rattle.exec_memory.specs.Stages.{afterIndirectWord, coreOf, ringFrom, ringAfter}
+use Rattle.exec_memory.specs.Stages.{afterIndirectWord, levelCore, ringFrom, ringAfter}
 use Rattle.exec_memory.specs.declared.address.Effective.{Effective}
 use Rattle.exec_memory.specs.declared.address.Effective.the-variants.{At, Failed}
 
@@ -266,18 +266,18 @@ module _ (c : Core) (m t : List ℕ) where
 -- the file is left as it is
 pub file-left : {c : Core} {f : File} {r : Rights} (l : ℕ) (m t : List ℕ) {z : Ending} {e : Event} → Executing c f r
     → z ≡ record { file = f; event = e }
-    → endedPart l c z m t ≡ eventPart l (nextCore c) m t (permitted (privileged c) e)
+    → endedPart l c z m t ≡ eventPart l (nextCore c) m t (byPrivilege (privileged c) e)
 file-left {c} l m t {e = e} s q =
     ap (λ (y : Ending). endedPart l c y m t) q
-    ∙ ap (λ (g : File). eventPart l (withFile c g) m t (permitted (privileged c) e)) (sym (s .file))
+    ∙ ap (λ (g : File). eventPart l (withFile c g) m t (byPrivilege (privileged c) e)) (sym (s .file))
 
 -- an instruction that stores nothing ends with the error interrupt or well
 completed-part : (l : ℕ) (c : Core) (m t : List ℕ) (d : Completed)
     → endedPart l c (endingOf d) m t ≡ finished c m t [] d
-unfolding eventPart permitted finished
+unfolding eventPart byPrivilege finished
 completed-part l c m t d = go (d .error)
   where
-    go : (b : Bool) → eventPart l (withFile c (d .file)) m t (permitted (privileged c) (cond b Error Fine))
+    go : (b : Bool) → eventPart l (withFile c (d .file)) m t (byPrivilege (privileged c) (cond b Error Fine))
         ≡ finished c m t [] (record { file = d .file; stores = d .stores; error = b })
     go true = refl
     go false = refl
@@ -308,7 +308,7 @@ module _ (f : File) (m t : List ℕ) (a : ℕ) (r : Rights) (o : MemoryOp) (md :
 
   pub memory-failed : (x : Translation) → e ≡ Failed x → z ≡ record { file = f; event = Faulted x }
       → UserStage f a r (Memory o md d) m t z m v
-  unfolding addressed eventPart permitted
+  unfolding addressed eventPart byPrivilege
   memory-failed x q n l c s = file-left l m v (s .executing) n ∙ ap (addressed c m v o) (sym q) ∙ h c o s
 
 -- ---- the fetch
@@ -351,24 +351,24 @@ fetch-below t words r a h =
 
 -- the PCR after a fetch from memory with paging on
 lowered-ring : (f : File) (p : ℕ) (k : Control) (ring : ℕ) → ring ≤ ringOf p
-    → lowered (coreOf f p k) ring ≡ coreOf f (loweredPcr p ring) k
+    → lowered (levelCore f p k) ring ≡ levelCore f (loweredPcr p ring) k
 unfolding lowered
 lowered-ring f p k ring h =
-    decided (λ (c : Core). c ≡ coreOf f (loweredPcr p ring) k) (ltb ring (ringOf p)) (λ q. refl) same
+    decided (λ (c : Core). c ≡ levelCore f (loweredPcr p ring) k) (ltb ring (ringOf p)) (λ q. refl) same
   where
-    same : ltb ring (ringOf p) ≡ false → coreOf f p k ≡ coreOf f (loweredPcr p ring) k
+    same : ltb ring (ringOf p) ≡ false → levelCore f p k ≡ levelCore f (loweredPcr p ring) k
     same q =
         let e : p ≡ loweredPcr p ring = omega (arith, h, ltb-false ring (ringOf p) q) in
-        ap (λ (y : ℕ). coreOf f y k) e
+        ap (λ (y : ℕ). levelCore f y k) e
 
 -- what the code makes of the ring is what the definition makes of the PCR
 pub ring-is : (f : File) (p : ℕ) (k : Control) (t : List ℕ) (words a : ℕ) {r : Rights} {x : Translation} {ring : ℕ}
     → levelRights p (k .paging) ≡ r → x ≡ translate t words r (access Fetch false a)
     → ring ≡ entryAt t (slotOf (r .normal) a) .ring
-    → afterFetch (coreOf f p k) ring x ≡ coreOf f (loweredPcr p (ringAfter r ring x)) k
+    → afterFetch (levelCore f p k) ring x ≡ levelCore f (loweredPcr p (ringAfter r ring x)) k
 ring-is f p k t words a {r} {x} {ring} e q h =
     subst
-    (λ (y : Rights). afterFetch (coreOf f p k) ring x ≡ coreOf f (loweredPcr p (ringAfter y ring x)) k)
+    (λ (y : Rights). afterFetch (levelCore f p k) ring x ≡ levelCore f (loweredPcr p (ringAfter y ring x)) k)
     e
     (go (eqb (k .paging) 1) refl x below)
   where
@@ -377,15 +377,16 @@ ring-is f p k t words a {r} {x} {ring} e q h =
         subst (λ (y : Rights). RingBelow ring (y .ring) x) (sym e)
         (rw (q, h) (fetch-below t words r a (ap (λ (y : Rights). y .paging) (sym e) ∙ z)))
 
-    own : (b : Bool) → coreOf f p k ≡ coreOf f (loweredPcr p (cond b (ringOf p) (ringOf p))) k
-    own b = either (λ (y : ℕ). coreOf f p k ≡ coreOf f (loweredPcr p y) k) b same same
+    own : (b : Bool) → levelCore f p k ≡ levelCore f (loweredPcr p (cond b (ringOf p) (ringOf p))) k
+    own b = either (λ (y : ℕ). levelCore f p k ≡ levelCore f (loweredPcr p y) k) b same same
       where
-        same : coreOf f p k ≡ coreOf f (loweredPcr p (ringOf p)) k
-        same = ap (λ (y : ℕ). coreOf f y k) (sym (same-ring p))
+        same : levelCore f p k ≡ levelCore f (loweredPcr p (ringOf p)) k
+        same = ap (λ (y : ℕ). levelCore f y k) (sym (same-ring p))
 
     go : (b : Bool) → eqb (k .paging) 1 ≡ b → (y : Translation)
         → (eqb (k .paging) 1 ≡ true → RingBelow ring (ringOf p) y)
-        → afterFetch (coreOf f p k) ring y ≡ coreOf f (loweredPcr p (ringAfter (levelRights p (k .paging)) ring y)) k
+        → afterFetch (levelCore f p k) ring y
+        ≡ levelCore f (loweredPcr p (ringAfter (levelRights p (k .paging)) ring y)) k
     go b z NoAccess n = own (eqb (k .paging) 1)
     go true z (Load i) n = rw z (lowered-ring f p k ring (n z))
     go false z (Load i) n = rw z (own false)

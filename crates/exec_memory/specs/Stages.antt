@@ -76,8 +76,8 @@ UserStage f at r u m t e m' t' = (l : ℕ) (c : Core) → ExecutingAt c f at r �
 -- ---- the fetch
 
 -- the core of a file, a PCR and control words
-abbrev pub coreOf : File → ℕ → Control → Core
-coreOf f p k = record { file = f; pcr = p; control = k }
+abbrev pub levelCore : File → ℕ → Control → Core
+levelCore f p k = record { file = f; pcr = p; control = k }
 
 -- the ring after a passed fetch to the place x by way of an entry of a ring that is not above the old one
 abbrev pub ringFrom : ℕ → ℕ → Translation → ℕ

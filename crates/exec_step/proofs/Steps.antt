@@ -26,11 +26,11 @@ use Rattle.decode.specs.Exr.{exrOf}
 use Rattle.paging.specs.Levels.{levelRights, byFlags, onRing, privilegedBy}
 use Rattle.paging.proofs.Levels.{ring-rights, same-ring}
 use Rattle.paging.proofs.Outcomes.{Found, passes-zero, fails-other}
-use Rattle.event.specs.Events.{eventPart, permitted}
+use Rattle.event.specs.Events.{eventPart, byPrivilege}
 use Rattle.event.specs.declared.Ending.{Ending}
 use Rattle.event.specs.declared.Event.{Event}
 use Rattle.event.specs.declared.Event.the-variants.{Failed as Faulted, Privileged as ByRing}
-use Rattle.exec_memory.specs.Stages.{coreOf, ringAfter}
+use Rattle.exec_memory.specs.Stages.{levelCore, ringAfter}
 use Rattle.exec_memory.proofs.Stages.{ring-is, ring-small}
 use Rattle.exec_step.specs.Steps.{InstructionStage, followedBy, followed, ExecutedWord, StepOfLevel}
 
@@ -47,9 +47,9 @@ executed-followed f w = go (decode w) refl
 
 -- a privileged instruction, on a ring that may execute it or on one that may not
 pub privileged-part : (l : ℕ) (c : Core) (m t : List ℕ) (q : System) (b : Bool)
-    → eventPart l c m t (permitted b (ByRing q))
+    → eventPart l c m t (byPrivilege b (ByRing q))
     ≡ cond b (systemStage l c m t q) (trapped interruptPrivileged c m t)
-unfolding eventPart permitted
+unfolding eventPart byPrivilege
 privileged-part l c m t q true = refl
 privileged-part l c m t q false = refl
 
@@ -58,7 +58,7 @@ pub word-executed : (f : File) (m t : List ℕ) (a w : ℕ) (r : Rights) {q : Ri
     (m′ t′ : List ℕ) → q ≡ byFlags r (reg f Sts) → i ≡ decode (followed f w) → InstructionStage f a q i m t d m′ t′
     → ExecutedWord f a r w m t d m′ t′
 word-executed f m t a w r {q} d m′ t′ x y h l p b k e z n =
-    let c : Core = coreOf b p k in
+    let c : Core = levelCore b p k in
     let rights : rightsOf c ≡ q =
     ap (λ (v : Rights). byFlags v (reg b Sts)) n ∙ ap (λ (g : File). byFlags r (reg g Sts)) e ∙ sym x in
     h l c (record { executing = record { file = e; rights = rights }; address = z })
@@ -86,20 +86,20 @@ module _ {f : File} {m t : List ℕ} {r : Rights} {ring : ℕ} {x : Translation}
     (h : Fetched f m t r ring x n v) where
   fetched-step : (l p : ℕ) (k : Control) (b : Bool) → passes x ≡ b → levelRights p (k .paging) ≡ r
       → cond b
-      (instructionStage l (afterFetch (coreOf f p k) ring x) m v (executed f (decode (wordAt m v x))))
-      (failed (coreOf f p k) x m v)
-      ≡ stepIn l (coreOf f p k) m t
+      (instructionStage l (afterFetch (levelCore f p k) ring x) m v (executed f (decode (wordAt m v x))))
+      (failed (levelCore f p k) x m v)
+      ≡ stepIn l (levelCore f p k) m t
   unfolding stepIn fetched
   fetched-step l p k b s e =
       ap
       (λ (y : Bool). cond y
-      (instructionStage l (afterFetch (coreOf f p k) ring x) m v (executed f (decode (wordAt m v x))))
-      (failed (coreOf f p k) x m v))
+      (instructionStage l (afterFetch (levelCore f p k) ring x) m v (executed f (decode (wordAt m v x))))
+      (failed (levelCore f p k) x m v))
       (sym s)
       ∙ whole
     where
       c : Core
-      c = coreOf f p k
+      c = levelCore f p k
 
       x-is : x ≡ translate t (length m) (rightsOf c) (fetchOf c)
       x-is =
@@ -123,7 +123,7 @@ module _ {f : File} {m t : List ℕ} {r : Rights} {ring : ℕ} {x : Translation}
   pub step-passed : (q w : ℕ) {b : Bool} (e : Ending) {z : Event} (m′ t′ : List ℕ) → n ≡ 0 → r .ring < 4
       → q ≡ ringAfter r ring x
       → b ≡ privilegedBy (onRing r q)
-      → z ≡ permitted b (e .event)
+      → z ≡ byPrivilege b (e .event)
       → w ≡ wordAt m v x
       → ExecutedWord (next f) (reg f P) (onRing r q) w m v e m′ t′
       → StepOfLevel f r m t (record { file = e .file; ring = q; event = z }) m′ t′
@@ -132,14 +132,14 @@ module _ {f : File} {m t : List ℕ} {r : Rights} {ring : ℕ} {x : Translation}
       let lower : ℕ = loweredPcr p q in
       let rights : levelRights lower (k .paging) ≡ onRing r q =
       ring-rights p q (k .paging) small ∙ ap (λ (u : Rights). onRing u q) y in
-      let core : coreOf f lower k ≡ afterFetch (coreOf f p k) ring x =
-      ap (λ (u : ℕ). coreOf f (loweredPcr p u) k) i
+      let core : levelCore f lower k ≡ afterFetch (levelCore f p k) ring x =
+      ap (λ (u : ℕ). levelCore f (loweredPcr p u) k) i
       ∙ sym (ring-is f p k t (length m) (reg f P) y (h .found .place) (h .entry)) in
-      ap (eventPart l (coreOf (e .file) lower k) m′ t′)
-      (a ∙ ap (λ (u : Bool). permitted u (e .event)) (g ∙ ap privilegedBy (sym rights)))
+      ap (eventPart l (levelCore (e .file) lower k) m′ t′)
+      (a ∙ ap (λ (u : Bool). byPrivilege u (e .event)) (g ∙ ap privilegedBy (sym rights)))
       ∙ d l lower f k refl refl rights
       ∙ ap (λ (c : Core). instructionStage l c m v (executed f (decode w))) core
-      ∙ ap (λ (u : ℕ). instructionStage l (afterFetch (coreOf f p k) ring x) m v (executed f (decode u))) j
+      ∙ ap (λ (u : ℕ). instructionStage l (afterFetch (levelCore f p k) ring x) m v (executed f (decode u))) j
       ∙ fetched-step l p k true (passes-zero x (h .found .fault) s) y
 
   -- it failed
@@ -147,4 +147,5 @@ module _ {f : File} {m t : List ℕ} {r : Rights} {ring : ℕ} {x : Translation}
   unfolding eventPart
   step-failed s l p k y =
       let own : loweredPcr p (r .ring) ≡ p = ap (λ (u : Rights). loweredPcr p (u .ring)) (sym y) ∙ same-ring p in
-      ap (λ (u : ℕ). failed (coreOf f u k) x m v) own ∙ fetched-step l p k false (fails-other x (h .found .fault) s) y
+      ap (λ (u : ℕ). failed (levelCore f u k) x m v) own
+      ∙ fetched-step l p k false (fails-other x (h .found .fault) s) y

@@ -19,7 +19,7 @@ use Rattle.decode.specs.declared.Exr.the-variants.{Source, Other}
 use Rattle.paging.specs.Levels.{levelRights}
 use Rattle.event.specs.Events.{eventPart, endedPart}
 use Rattle.event.specs.declared.Ending.{Ending}
-use Rattle.exec_memory.specs.Stages.{ExecutingAt, coreOf}
+use Rattle.exec_memory.specs.Stages.{ExecutingAt, levelCore}
 use Rattle.exec_step.specs.declared.LevelStep.{LevelStep}
 
 -- the ending e is what a stage answers for any instruction in every core that executes it
@@ -40,10 +40,10 @@ followed f w = followedBy f w (exrOf (decode w))
 abbrev pub ExecutedWord : File → ℕ → Rights → ℕ → List ℕ → List ℕ → Ending → List ℕ → List ℕ → Type 0
 ExecutedWord f at r w m t e m' t' =
     (l p : ℕ) (b : File) (k : Control) → next b ≡ f → reg b P ≡ at → levelRights p (k .paging) ≡ r
-    → endedPart l (coreOf b p k) e m' t' ≡ instructionStage l (coreOf b p k) m t (executed b (decode w))
+    → endedPart l (levelCore b p k) e m' t' ≡ instructionStage l (levelCore b p k) m t (executed b (decode w))
 
 -- s is what a step leaves of every level with the file f and the rights r
 abbrev pub StepOfLevel : File → Rights → List ℕ → List ℕ → LevelStep → List ℕ → List ℕ → Type 0
 StepOfLevel f r m t s m' t' =
     (l p : ℕ) (k : Control) → levelRights p (k .paging) ≡ r
-    → eventPart l (coreOf (s .file) (loweredPcr p (s .ring)) k) m' t' (s .event) ≡ stepIn l (coreOf f p k) m t
+    → eventPart l (levelCore (s .file) (loweredPcr p (s .ring)) k) m' t' (s .event) ≡ stepIn l (levelCore f p k) m t

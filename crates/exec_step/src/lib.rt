@@ -7,7 +7,7 @@ ghost use lib.ListN.{length};
 ghost use Rattle.exec_step.specs.Steps.{StepOfLevel};
 use crate::instruction::executed_word;
 use event::Event;
-use event::permitted;
+use event::by_privilege;
 use exec_memory::fetch::ring_after;
 use isa::access::AccessKind;
 use isa::access::Rights;
@@ -51,7 +51,7 @@ pub fn step_in(f: File, r: Rights, mem: &mut [u16], tables: &mut [u16]) -> Level
         return LevelStep {
             file: file,
             ring: q,
-            event: permitted(privileged(s), event),
+            event: by_privilege(privileged(s), event),
         };
     }
     LevelStep {

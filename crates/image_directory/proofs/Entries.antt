@@ -10,36 +10,36 @@ use lib.ListN.{length, getD, drop}
 use lib.Seq.{getD-drop, drop-drop}
 use lib.Dec.{ltb, leb}
 use borrow.Author.Tests.{lt-ltb, le-ltb, le-leb, lt-leb, ltb-true, leb-true}
-use Rattle.isa.specs.Images.{ImageEntry, twoWords, entryOf, entriesOf, entryCount, contentsFit, namedWords}
+use Rattle.isa.specs.Images.{ImageEntry, highLow, imageEntryOf, entriesOf, entryCount, contentsFit, namedWords}
 use Rattle.isa.proofs.Tests.{and-left, and-right}
-use Rattle.image_directory.specs.Entries.{entryAt, restOf}
+use Rattle.image_directory.specs.Entries.{imageEntryAt, restOf}
 
 -- ---- reading
 
 -- five words are an entry
-pub entry-read : (i : List ℕ) (k s n : ℕ) → s ≡ twoWords (getD i (1 + k * 5 + 1) 0) (getD i (1 + k * 5 + 2) 0)
-    → n ≡ twoWords (getD i (1 + k * 5 + 3) 0) (getD i (1 + k * 5 + 4) 0)
-    → _≡_ {A = ImageEntry} (record { kind = getD i (1 + k * 5) 0; start = s; count = n }) (entryAt k i)
-unfolding entryAt
+pub entry-read : (i : List ℕ) (k s n : ℕ) → s ≡ highLow (getD i (1 + k * 5 + 1) 0) (getD i (1 + k * 5 + 2) 0)
+    → n ≡ highLow (getD i (1 + k * 5 + 3) 0) (getD i (1 + k * 5 + 4) 0)
+    → _≡_ {A = ImageEntry} (record { kind = getD i (1 + k * 5) 0; start = s; count = n }) (imageEntryAt k i)
+unfolding imageEntryAt
 entry-read i k s n p q = λ j. record { kind = z j; start = (p ∙ a) j; count = (q ∙ b) j }
   where
     z : getD i (1 + k * 5) 0 ≡ getD (drop (1 + k * 5) i) 0 0
     z = ap (λ (x : ℕ). getD i x 0) (sym (add-zero (1 + k * 5))) ∙ sym (getD-drop (1 + k * 5) i 0 0)
 
-    a : twoWords (getD i (1 + k * 5 + 1) 0) (getD i (1 + k * 5 + 2) 0)
-        ≡ twoWords (getD (drop (1 + k * 5) i) 1 0) (getD (drop (1 + k * 5) i) 2 0)
-    a = λ j. twoWords (sym (getD-drop (1 + k * 5) i 1 0) j) (sym (getD-drop (1 + k * 5) i 2 0) j)
+    a : highLow (getD i (1 + k * 5 + 1) 0) (getD i (1 + k * 5 + 2) 0)
+        ≡ highLow (getD (drop (1 + k * 5) i) 1 0) (getD (drop (1 + k * 5) i) 2 0)
+    a = λ j. highLow (sym (getD-drop (1 + k * 5) i 1 0) j) (sym (getD-drop (1 + k * 5) i 2 0) j)
 
-    b : twoWords (getD i (1 + k * 5 + 3) 0) (getD i (1 + k * 5 + 4) 0)
-        ≡ twoWords (getD (drop (1 + k * 5) i) 3 0) (getD (drop (1 + k * 5) i) 4 0)
-    b = λ j. twoWords (sym (getD-drop (1 + k * 5) i 3 0) j) (sym (getD-drop (1 + k * 5) i 4 0) j)
+    b : highLow (getD i (1 + k * 5 + 3) 0) (getD i (1 + k * 5 + 4) 0)
+        ≡ highLow (getD (drop (1 + k * 5) i) 3 0) (getD (drop (1 + k * 5) i) 4 0)
+    b = λ j. highLow (sym (getD-drop (1 + k * 5) i 3 0) j) (sym (getD-drop (1 + k * 5) i 4 0) j)
 
 -- the entries from k on: entry k and those after it, or none
-pub rest-next : (k n : ℕ) (i : List ℕ) → k < n → restOf k n i ≡ entryAt k i ∷ restOf (k + 1) n i
-unfolding restOf entryAt
+pub rest-next : (k n : ℕ) (i : List ℕ) → k < n → restOf k n i ≡ imageEntryAt k i ∷ restOf (k + 1) n i
+unfolding restOf imageEntryAt
 rest-next k n i h =
     ap (λ (x : ℕ). entriesOf x (drop (1 + k * 5) i)) a
-    ∙ ap (λ (x : List ℕ). entryOf (drop (1 + k * 5) i) ∷ entriesOf (n - (k + 1)) x)
+    ∙ ap (λ (x : List ℕ). imageEntryOf (drop (1 + k * 5) i) ∷ entriesOf (n - (k + 1)) x)
     (drop-drop 5 (1 + k * 5) i ∙ ap (λ (x : ℕ). drop x i) b)
   where
     a : n - k ≡ suc (n - (k + 1))
@@ -99,10 +99,10 @@ module _ (i : List ℕ) where
 -- ---- the words named
 
 pub named-next : (k n : ℕ) (i : List ℕ) → k < n
-    → namedWords (restOf k n i) ≡ entryAt k i .count + namedWords (restOf (k + 1) n i)
+    → namedWords (restOf k n i) ≡ imageEntryAt k i .count + namedWords (restOf (k + 1) n i)
 named-next k n i h = ap namedWords (rest-next k n i h)
 
-pub named-less : (k n c : ℕ) (i : List ℕ) (e : ImageEntry) → k < n → e ≡ entryAt k i → c ≡ e .count
+pub named-less : (k n c : ℕ) (i : List ℕ) (e : ImageEntry) → k < n → e ≡ imageEntryAt k i → c ≡ e .count
     → namedWords (restOf k n i) ≡ c + namedWords (restOf (k + 1) n i)
 named-less k n c i e h q p =
     named-next k n i h

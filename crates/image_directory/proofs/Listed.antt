@@ -15,12 +15,12 @@ use Rattle.isa.specs.declared.answer.Refusal.the-variants.{Kind, Target, Overla
 use Rattle.isa.specs.declared.answer.Answer.{Answer}
 use Rattle.isa.specs.declared.answer.Answer.the-variants.{Done, Refused}
 use Rattle.checks.specs.Answers.{firstOf}
-use Rattle.image_directory.specs.Entries.{entryAt, restOf}
+use Rattle.image_directory.specs.Entries.{imageEntryAt, restOf}
 use Rattle.image_directory.proofs.Entries.{rest-next, rest-end, rest-start}
 use Rattle.image_directory.specs.Listing.{seenOf, targetAnswer, overlapAnswer, entryAnswer, bodyAnswer}
 
 -- one more seen
-pub seen-next : (k : ℕ) (i : List ℕ) → seenOf (k + 1) i ≡ entryAt k i ∷ seenOf k i
+pub seen-next : (k : ℕ) (i : List ℕ) → seenOf (k + 1) i ≡ imageEntryAt k i ∷ seenOf k i
 unfolding seenOf
 seen-next k i = ap (λ (x : ℕ). seenOf x i) (add-one k)
 
@@ -52,17 +52,17 @@ module _ (a b : ImageEntry) (k : a .kind ≡ b .kind) (m : 0 < a .count) where
     )
 
 module _ (e : ImageEntry) (k : ℕ) (i : List ℕ) (h : 0 < k) where
-  any-split : meetsAny e (seenOf k i) ≡ (meets e (entryAt (k - 1) i) || meetsAny e (seenOf (k - 1) i))
+  any-split : meetsAny e (seenOf k i) ≡ (meets e (imageEntryAt (k - 1) i) || meetsAny e (seenOf (k - 1) i))
   unfolding seenOf
   any-split = ap (λ (x : ℕ). meetsAny e (seenOf x i)) a
     where
       a : k ≡ suc (k - 1)
       a = omega arith
 
-  pub any-found : meets e (entryAt (k - 1) i) ≡ true → meetsAny e (seenOf k i) ≡ true
+  pub any-found : meets e (imageEntryAt (k - 1) i) ≡ true → meetsAny e (seenOf k i) ≡ true
   any-found q = any-split ∙ ap (λ (b : Bool). b || meetsAny e (seenOf (k - 1) i)) q
 
-  pub any-next : meets e (entryAt (k - 1) i) ≡ false → meetsAny e (seenOf k i) ≡ meetsAny e (seenOf (k - 1) i)
+  pub any-next : meets e (imageEntryAt (k - 1) i) ≡ false → meetsAny e (seenOf k i) ≡ meetsAny e (seenOf (k - 1) i)
   any-next q = any-split ∙ ap (λ (b : Bool). b || meetsAny e (seenOf (k - 1) i)) q
 
 pub any-none : (e : ImageEntry) (k : ℕ) (i : List ℕ) → k ≤ 0 → meetsAny e (seenOf k i) ≡ false
@@ -93,20 +93,20 @@ entries-split words seen e es =
 
 module _ (words k n : ℕ) (i : List ℕ) where
   at-k : k < n → entriesAnswer words (seenOf k i) (restOf k n i)
-      ≡ firstOf (entryAnswer words (seenOf k i) (entryAt k i))
+      ≡ firstOf (entryAnswer words (seenOf k i) (imageEntryAt k i))
       (entriesAnswer words (seenOf (k + 1) i) (restOf (k + 1) n i))
   at-k h =
       ap (entriesAnswer words (seenOf k i)) (rest-next k n i h)
-      ∙ entries-split words (seenOf k i) (entryAt k i) (restOf (k + 1) n i)
-      ∙ ap (λ (x : List ImageEntry). firstOf (entryAnswer words (seenOf k i) (entryAt k i))
+      ∙ entries-split words (seenOf k i) (imageEntryAt k i) (restOf (k + 1) n i)
+      ∙ ap (λ (x : List ImageEntry). firstOf (entryAnswer words (seenOf k i) (imageEntryAt k i))
       (entriesAnswer words x (restOf (k + 1) n i))) (sym (seen-next k i))
 
-  pub entries-pass : k < n → entryAnswer words (seenOf k i) (entryAt k i) ≡ Done
+  pub entries-pass : k < n → entryAnswer words (seenOf k i) (imageEntryAt k i) ≡ Done
       → entriesAnswer words (seenOf k i) (restOf k n i) ≡ entriesAnswer words (seenOf (k + 1) i) (restOf (k + 1) n i)
   entries-pass h e =
       at-k h ∙ ap (λ (x : Answer). firstOf x (entriesAnswer words (seenOf (k + 1) i) (restOf (k + 1) n i))) e
 
-  pub entries-stop : (r : Refusal) → k < n → entryAnswer words (seenOf k i) (entryAt k i) ≡ Refused r
+  pub entries-stop : (r : Refusal) → k < n → entryAnswer words (seenOf k i) (imageEntryAt k i) ≡ Refused r
       → entriesAnswer words (seenOf k i) (restOf k n i) ≡ Refused r
   entries-stop r h e =
       at-k h ∙ ap (λ (x : Answer). firstOf x (entriesAnswer words (seenOf (k + 1) i) (restOf (k + 1) n i))) e

@@ -10,12 +10,12 @@ use Rattle.isa.specs.declared.answer.Refusal.the-variants.{Kind, Target, Overla
 use Rattle.isa.specs.declared.answer.Answer.{Answer}
 use Rattle.isa.specs.declared.answer.Answer.the-variants.{Done, Refused}
 use Rattle.checks.specs.Answers.{firstOf}
-use Rattle.image_directory.specs.Entries.{entryAt}
+use Rattle.image_directory.specs.Entries.{imageEntryAt}
 
 -- the entries before entry k, the last first
 unfoldable pub seenOf : ℕ → List ℕ → List ImageEntry
 seenOf zero i = []
-seenOf (suc k) i = entryAt k i ∷ seenOf k i
+seenOf (suc k) i = imageEntryAt k i ∷ seenOf k i
 
 -- refusals 5 and 6; 7; all three; 8
 unfoldable pub targetAnswer : ℕ → ImageEntry → Answer

@@ -2,8 +2,8 @@
 ghost use mathlib.Core.Path.{_≡_};
 ghost use Prim.Native.Nat.{_+_, _*_, _≤_, _<_};
 ghost use lib.ListN.{length, getD};
-ghost use Rattle.isa.specs.Images.{twoWords, contentsFit};
-ghost use Rattle.image_directory.specs.Entries.{spanEntry, entryAt};
+ghost use Rattle.isa.specs.Images.{highLow, contentsFit};
+ghost use Rattle.image_directory.specs.Entries.{spanEntry, imageEntryAt};
 use isa::constant::ENTRY_SIZE;
 use isa::constant::MOST_ENTRIES;
 use isa::constant::WORD_RANGE;
@@ -17,7 +17,7 @@ pub struct Span {
 
 // Two words, high first.
 fn two_words(high: u16, low: u16) -> u32
-    ensures { λ r. ⌜ r ≡ twoWords high low ⌝ }
+    ensures { λ r. ⌜ r ≡ highLow high low ⌝ }
 {
     high as u32 * WORD_RANGE + low as u32
 }
@@ -48,7 +48,7 @@ pub fn entry_count(image: &[u16]) -> usize
 // Entry k.
 pub fn entry_at(image: &[u16], k: usize) -> Span
     requires { ⌜ k * 5 + 6 ≤ length (now image) ⌝ }
-    ensures { λ r. ⌜ spanEntry r ≡ entryAt k (now (image .entry)) ⌝ }
+    ensures { λ r. ⌜ spanEntry r ≡ imageEntryAt k (now (image .entry)) ⌝ }
 {
     let at = 1 + k * ENTRY_SIZE;
     Span {

@@ -6,7 +6,7 @@ ghost use Prim.Native.Nat.{_+_, _*_, _≤_};
 ghost use lib.ListN.{length, drop};
 ghost use Rattle.isa.specs.Images.{contentsFit, entriesOf, entriesAnswer, knownKind, sizeOf, meets, meetsAny};
 ghost use Rattle.isa.specs.Images.{namedWords};
-ghost use Rattle.image_directory.specs.Entries.{spanEntry, entryAt};
+ghost use Rattle.image_directory.specs.Entries.{spanEntry, imageEntryAt};
 ghost use Rattle.image_directory.specs.Listing.{seenOf, targetAnswer, overlapAnswer, entryAnswer, bodyAnswer};
 ghost use Rattle.image_directory.specs.Listing.{listAnswer};
 use crate::entry::Span;
@@ -120,7 +120,7 @@ fn overlap_answer(image: &[u16], n: usize, e: Span) -> Answer
 // Refusals 5, 6 and 7 of entry k.
 fn entry_answer(image: &[u16], k: usize, words: usize) -> Answer
     requires { ⌜ k * 5 + 6 ≤ length (now image) ⌝ }
-    ensures { λ r. ⌜ r ≡ entryAnswer words (seenOf k (now (image .entry))) (entryAt k (now (image .entry))) ⌝ }
+    ensures { λ r. ⌜ r ≡ entryAnswer words (seenOf k (now (image .entry))) (imageEntryAt k (now (image .entry))) ⌝ }
 {
     let e = entry_at(image, k);
     let a = target_answer(e, words);

@@ -11,22 +11,22 @@ use lib.Seq.{paste, take-all, drop-drop}
 use lib.Dec.{eqb}
 use borrow.Author.Tests.{eq-eqb}
 use Rattle.isa.specs.Images.{ImageEntry, entriesOf, namedWords, placed, contents, bodies}
-use Rattle.image_directory.specs.Entries.{entryAt, restOf}
+use Rattle.image_directory.specs.Entries.{imageEntryAt, restOf}
 use Rattle.image_directory.proofs.Entries.{rest-next, rest-end, rest-start, named-next}
 use Rattle.image_load.specs.Placing.{Inside, Placeable}
 
 module _ (k size j n : ℕ) (i : List ℕ) (h : j < n) (q : Inside k size (restOf j n i)) where
-  both : Inside k size (entryAt j i ∷ restOf (j + 1) n i)
+  both : Inside k size (imageEntryAt j i ∷ restOf (j + 1) n i)
   both = subst (Inside k size) (rest-next j n i h) q
 
-  pub inside-this : entryAt j i .kind ≡ k → entryAt j i .start + entryAt j i .count ≤ size
+  pub inside-this : imageEntryAt j i .kind ≡ k → imageEntryAt j i .start + imageEntryAt j i .count ≤ size
   inside-this = both .0
 
   pub inside-next : Inside k size (restOf (j + 1) n i)
   inside-next = both .1
 
 -- one entry more
-pub placed-step : (k j n at at′ : ℕ) (i d d′ : List ℕ) (e : ImageEntry) → j < n → e ≡ entryAt j i
+pub placed-step : (k j n at at′ : ℕ) (i d d′ : List ℕ) (e : ImageEntry) → j < n → e ≡ imageEntryAt j i
     → d′ ≡ cond (eqb (e .kind) k) (paste d (e .start) (drop at i) (e .count)) d
     → at′ ≡ at + e .count
     → placed k (restOf j n i) (drop at i) d ≡ placed k (restOf (j + 1) n i) (drop at′ i) d′
@@ -55,7 +55,7 @@ module _ (k size n : ℕ) (i : List ℕ) (e : n ≡ getD i 0 0) (p : Placeable k
   start-all = (λ j. 1 + e j * 5 + namedWords (from-first n i e j)) ∙ p .all
 
 -- what an entry's body needs
-pub body-lies : (k size j n at : ℕ) (i : List ℕ) (e : ImageEntry) → j < n → e ≡ entryAt j i
+pub body-lies : (k size j n at : ℕ) (i : List ℕ) (e : ImageEntry) → j < n → e ≡ imageEntryAt j i
     → at + namedWords (restOf j n i) ≡ length i
     → Inside k size (restOf j n i)
     → (at + e .count ≤ length i) × (e .kind ≡ k → e .start + e .count ≤ size)
@@ -65,7 +65,7 @@ body-lies k size j n at i e h q a p = (
   subst (λ (x : ImageEntry). x .kind ≡ k → x .start + x .count ≤ size) (sym q) (inside-this k size j n i h p),
 )
   where
-    within : (x : ℕ) → namedWords (restOf j n i) ≡ entryAt j i .count + x → at + entryAt j i .count ≤ length i
+    within : (x : ℕ) → namedWords (restOf j n i) ≡ imageEntryAt j i .count + x → at + imageEntryAt j i .count ≤ length i
     within x l = omega arith
 
 -- an entry's body, copied

@@ -20,21 +20,21 @@ pub record ImageEntry : Type 0 where
 abbrev pub entrySize : ℕ
 entrySize = 5
 
-abbrev pub twoWords : ℕ → ℕ → ℕ
-twoWords high low = high * wordRange + low
+abbrev pub highLow : ℕ → ℕ → ℕ
+highLow high low = high * wordRange + low
 
 -- `contentsFit` below is tested first, so all five words are there
-abbrev pub entryOf : List ℕ → ImageEntry
-entryOf ws = record {
+abbrev pub imageEntryOf : List ℕ → ImageEntry
+imageEntryOf ws = record {
   kind = getD ws 0 0;
-  start = twoWords (getD ws 1 0) (getD ws 2 0);
-  count = twoWords (getD ws 3 0) (getD ws 4 0);
+  start = highLow (getD ws 1 0) (getD ws 2 0);
+  count = highLow (getD ws 3 0) (getD ws 4 0);
 }
 
 -- so many entries from the front of the words
 abbrev pub entriesOf : ℕ → List ℕ → List ImageEntry
 entriesOf zero ws = []
-entriesOf (suc n) ws = entryOf ws ∷ entriesOf n (drop entrySize ws)
+entriesOf (suc n) ws = imageEntryOf ws ∷ entriesOf n (drop entrySize ws)
 
 -- "Word 0: number of entries"; the entries; "Bodies follow in entry order"
 abbrev pub entryCount : List ℕ → ℕ

@@ -56,9 +56,7 @@ pub const NUMBER_T: usize = 6;
 
 pub const NUMBER_X: usize = 7;
 
-// The flags that instructions use: bits of STS.
-pub const FLAG_PTM: u16 = 0;
-
+// The flags that instructions set and test: bits of STS.
 pub const FLAG_K: u16 = 2;
 
 pub const FLAG_Z: u16 = 3;

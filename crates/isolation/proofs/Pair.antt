@@ -12,11 +12,11 @@ use Rattle.isa.specs.Isolation.{inEither, reachable}
 use Rattle.isa.specs.Answers.{runCall}
 use Rattle.isa.proofs.Tests.{no-both}
 use Rattle.isolation.specs.Statement.{Starts, Isolated}
-use Rattle.isolation.specs.Example.{own, left, right, tables, start}
+use Rattle.isolation.specs.Example.{own, left, right, tables, pairStart}
 use Rattle.isolation.proofs.Theorem.{isolation}
 
 -- page 2 is not permitted
-foreign : (p : ℕ) → reachable (start p) tables 2 ≡ false
+foreign : (p : ℕ) → reachable (pairStart p) tables 2 ≡ false
 unfolding inEither
 foreign p = refl
 
@@ -24,19 +24,19 @@ foreign p = refl
 begin-same : (xs ys zs : List ℕ) (k : ℕ) → k < length xs → getD (xs ++ ys) k 0 ≡ getD (xs ++ zs) k 0
 begin-same xs ys zs k l = List·getD-append xs ys 0 k l ∙ sym (List·getD-append xs zs 0 k l)
 
-pub pair-alike : (p : ℕ) → Starts (start p) tables left right
+pub pair-alike : (p : ℕ) → Starts (pairStart p) tables left right
 pair-alike p = record {
   paging-on = refl;
   ring-low = lit≤ tt;
   alike = record { size = refl; same = λ k q. go k q (decLt k 2048) (decLt k 3072) };
 }
   where
-    go : (k : ℕ) → reachable (start p) tables (k / 1024) ≡ true → Dec (k < 2048) → Dec (k < 3072)
+    go : (k : ℕ) → reachable (pairStart p) tables (k / 1024) ≡ true → Dec (k < 2048) → Dec (k < 3072)
         → getD left k 0 ≡ getD right k 0
     go k q (yes l) d =
         begin-same own (0o111111 ∷ 0o000001 ∷ replicate 1022 0) (0o022222 ∷ 0o000002 ∷ replicate 1022 0) k l
     go k q (no l) (yes u) =
-        absurd (no-both (sym (foreign p) ∙ subst (λ (x : ℕ). reachable (start p) tables x ≡ true) page q))
+        absurd (no-both (sym (foreign p) ∙ subst (λ (x : ℕ). reachable (pairStart p) tables x ≡ true) page q))
       where
         page : k / 1024 ≡ 2
         page = omega arith
@@ -47,6 +47,6 @@ pair-alike p = record {
         beyond n = omega arith
 
 pub pair-isolated : (c p : ℕ)
-    → Isolated (start p) tables left right (runCall true c (start p) left tables)
-    (runCall true c (start p) right tables)
-pair-isolated c p = isolation c (start p) tables left right (pair-alike p)
+    → Isolated (pairStart p) tables left right (runCall true c (pairStart p) left tables)
+    (runCall true c (pairStart p) right tables)
+pair-isolated c p = isolation c (pairStart p) tables left right (pair-alike p)

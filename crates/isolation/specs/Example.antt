@@ -50,8 +50,8 @@ tables = 0o061000 ∷ 0 ∷ 0o163002 ∷ (replicate 61 0 ++ (0 ∷ 0o141001 ∷ 
 
 -- Level 1 with P as given, B at virtual page 1, X at virtual page 2; paging on; PCR: ring 1, alternate table 1, normal
 -- table 0.
-abbrev pub start : ℕ → State
-start p = record {
+abbrev pub pairStart : ℕ → State
+pairStart p = record {
   regs = replicate 8 0 ++ (0 ∷ 0 ∷ p ∷ 0o002000 ∷ 0 ∷ 0 ∷ 0 ∷ 0o004000 ∷ replicate 112 0);
   level = 1;
   control = quiet 1;
@@ -74,7 +74,7 @@ seen r =
     ∷ []
 
 abbrev pub run : ℕ → List ℕ → RunCall
-run p m = runCall true 100 (start p) m tables
+run p m = runCall true 100 (pairStart p) m tables
 
 -- By the alternate table an entry without permits gives interrupt 3 (IID 000010), PGS 040000 + table 1, page 2; by the
 -- normal table ring 3 gives interrupt 2 (IID 000004), PGS table 0, page 2. The message is 000010 in every run; the
@@ -100,7 +100,7 @@ unfolding pair runCall stateAnswer sizesFit inRange fileAt putFile adder withOve
 pair-holds = refl
 
 -- the pages that are permitted to the start, for reading and for writing
-pub pages-hold : reachable (start 0) tables 0 ∷ reachable (start 0) tables 1 ∷ reachable (start 0) tables 2
-    ∷ writable (start 0) tables 0 ∷ writable (start 0) tables 1 ∷ [] ≡ true ∷ true ∷ false ∷ false ∷ true ∷ []
+pub pages-hold : reachable (pairStart 0) tables 0 ∷ reachable (pairStart 0) tables 1 ∷ reachable (pairStart 0) tables 2
+    ∷ writable (pairStart 0) tables 0 ∷ writable (pairStart 0) tables 1 ∷ [] ≡ true ∷ true ∷ false ∷ false ∷ true ∷ []
 unfolding inEither
 pages-hold = refl

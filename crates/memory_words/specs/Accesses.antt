@@ -35,5 +35,5 @@ faultIn (Three x y z) = NoAccess
 faultIn (Fault x) = x
 
 -- the words after the first
-abbrev pub restOf : Triple → Triple
-restOf w = record { a = w .b; b = w .c; c = 0 }
+abbrev pub afterFirst : Triple → Triple
+afterFirst w = record { a = w .b; b = w .c; c = 0 }

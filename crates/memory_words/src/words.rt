@@ -6,7 +6,7 @@ ghost use lib.ListN.{length};
 ghost use Rattle.isa.specs.Pages.{wordsAt, storeAll, lent, wordsOf};
 ghost use Rattle.isa.specs.declared.access.Translation.{Translation as TranslationOf};
 ghost use Rattle.paging.specs.Within.{Within, AllWithin};
-ghost use Rattle.memory_words.specs.Accesses.{placesOf, threePlaces, restOf};
+ghost use Rattle.memory_words.specs.Accesses.{placesOf, threePlaces, afterFirst};
 use crate::outcome::Places;
 use isa::access::Translation;
 use isa::access::Triple;
@@ -42,7 +42,7 @@ pub fn read_all(mem: &[u16], tables: &[u16], p: Places) -> Triple
 
 // The words after the first.
 fn rest(w: Triple) -> Triple
-    ensures { λ v. ⌜ v ≡ restOf w ⌝ }
+    ensures { λ v. ⌜ v ≡ afterFirst w ⌝ }
 {
     Triple {
         a: w.b,

@@ -15,7 +15,7 @@ use Rattle.isa.specs.declared.machine.State.{State}
 use Rattle.isa.specs.declared.answer.Target.{Target}
 use Rattle.isa.specs.declared.answer.Answer.{Answer}
 use Rattle.isa.specs.declared.answer.Answer.the-variants.{Done, Refused}
-use Rattle.nd110.specs.Calls.{Left, leftOf, ended, called, stateIn, stateOrdered, badCall}
+use Rattle.nd110.specs.Calls.{Left, leftOf, callEnd, called, stateIn, stateOrdered, badCall}
 
 -- ---- words put in front of others
 
@@ -35,18 +35,18 @@ viewed-most k a n m t = go (viewAnswer k a n m t)
 
 -- an operation that was refused, and one that was done, by the number k that the code has as n
 module _ (n k : ℕ) (s : State) (m t x w y : List ℕ) (e : n ≡ k) where
-  pub ended-refused : (n ≡ 0 → ⊥) → leftOf n w m t y ≡ ended k s m t x w y
-  unfolding ended
+  pub ended-refused : (n ≡ 0 → ⊥) → leftOf n w m t y ≡ callEnd k s m t x w y
+  unfolding callEnd
   ended-refused h =
       (λ i. leftOf n (cond (sym (ne-eqb n 0 h) i) (stateOrdered s) w) m t (cond (sym (ne-eqb n 0 h) i) x y))
-      ∙ ap (λ (j : ℕ). ended j s m t x w y) e
+      ∙ ap (λ (j : ℕ). callEnd j s m t x w y) e
 
-  pub ended-done : (v z : List ℕ) → n ≡ 0 → v ≡ stateOrdered s → z ≡ x → leftOf 0 v m t z ≡ ended k s m t x w y
-  unfolding ended
+  pub ended-done : (v z : List ℕ) → n ≡ 0 → v ≡ stateOrdered s → z ≡ x → leftOf 0 v m t z ≡ callEnd k s m t x w y
+  unfolding callEnd
   ended-done v z h hv hz =
       (λ i. leftOf (sym h i) (hv i) m t (hz i))
       ∙ (λ i. leftOf n (cond (sym (eq-eqb n 0 h) i) (stateOrdered s) w) m t (cond (sym (eq-eqb n 0 h) i) x y))
-      ∙ ap (λ (j : ℕ). ended j s m t x w y) e
+      ∙ ap (λ (j : ℕ). callEnd j s m t x w y) e
 
 -- words that are no state
 pub called-badly : (w m t y : List ℕ) (l : Left) → (length w ≡ stateWords → ⊥)

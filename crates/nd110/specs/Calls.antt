@@ -45,8 +45,8 @@ abbrev pub leftOf : ℕ → List ℕ → List ℕ → List ℕ → List ℕ → 
 leftOf n w m t x = record { number = n; state = w; memory = m; tables = t; told = x }
 
 -- an operation that answers n, hands s back and tells x, called with the words w and y: a refusal leaves both
-unfoldable pub ended : ℕ → State → List ℕ → List ℕ → List ℕ → List ℕ → List ℕ → Left
-ended n s m t x w y = leftOf n (cond (eqb n 0) (stateOrdered s) w) m t (cond (eqb n 0) x y)
+unfoldable pub callEnd : ℕ → State → List ℕ → List ℕ → List ℕ → List ℕ → List ℕ → Left
+callEnd n s m t x w y = leftOf n (cond (eqb n 0) (stateOrdered s) w) m t (cond (eqb n 0) x y)
 
 -- the call as a whole: words that are no state are refused, and nothing changes
 unfoldable pub called : List ℕ → List ℕ → List ℕ → List ℕ → Left → Left
@@ -54,7 +54,8 @@ called w m t y l = cond (eqb (length w) stateWords) l (leftOf badCall w m t y)
 
 -- step tells the interrupt's number
 abbrev pub stepEnd : List ℕ → List ℕ → StepCall → Left
-stepEnd w y c = ended (stepNumber (c .answer)) (c .state) (c .memory) (c .tables) (interruptGiven (c .answer) ∷ []) w y
+stepEnd w y c =
+    callEnd (stepNumber (c .answer)) (c .state) (c .memory) (c .tables) (interruptGiven (c .answer) ∷ []) w y
 
 abbrev pub hostStep : List ℕ → List ℕ → List ℕ → List ℕ → Left
 hostStep w m t y = called w m t y (stepEnd w y (stepCall (stateIn w) m t))
@@ -62,7 +63,7 @@ hostStep w m t y = called w m t y (stepEnd w y (stepCall (stateIn w) m t))
 -- a run tells its steps and its reason's number
 abbrev pub runEnd : List ℕ → List ℕ → RunCall → Left
 runEnd w y c =
-    ended (runNumber (c .answer)) (c .state) (c .memory) (c .tables)
+    callEnd (runNumber (c .answer)) (c .state) (c .memory) (c .tables)
     (stepsTaken (c .answer) ∷ reasonGiven (c .answer) ∷ []) w y
 
 abbrev pub hostRun : Bool → ℕ → List ℕ → List ℕ → List ℕ → List ℕ → Left
@@ -70,7 +71,7 @@ hostRun first n w m t y = called w m t y (runEnd w y (runCall first n (stateIn w
 
 -- raise and load tell nothing
 abbrev pub answerEnd : List ℕ → Answer → State → List ℕ → List ℕ → Left
-answerEnd w a s m t = ended (answerNumber a) s m t [] w []
+answerEnd w a s m t = callEnd (answerNumber a) s m t [] w []
 
 abbrev pub raiseEnd : List ℕ → List ℕ → List ℕ → StateCall → Left
 raiseEnd w m t c = answerEnd w (c .answer) (c .state) m t

@@ -12,8 +12,8 @@ use Rattle.levels.specs.Changes.{dueAt}
 use Rattle.run.specs.declared.machine.LoopEnd.{LoopEnd}
 
 -- what a run leaves
-abbrev pub runOf : LoopEnd → List ℕ → List ℕ → List ℕ → List ℕ → Run
-runOf r regs pcrs m t = ended (r .reason) (r .steps) (pack (r .level) (r .core) regs pcrs) m t
+abbrev pub loopRun : LoopEnd → List ℕ → List ℕ → List ℕ → List ℕ → Run
+loopRun r regs pcrs m t = ended (r .reason) (r .steps) (pack (r .level) (r .core) regs pcrs) m t
 
 -- why a run that has no step left ends
 abbrev pub reasonAtRest : Bool → ℕ → Control → Reason

@@ -9,7 +9,7 @@ ghost use Rattle.isa.specs.Machine.{pack};
 ghost use Rattle.isa.specs.Run.{runFrom};
 ghost use Rattle.isa.specs.Step.{step, turn};
 ghost use Rattle.levels.specs.Changes.{dueAt};
-ghost use Rattle.run.specs.Runs.{runOf, reasonAtRest};
+ghost use Rattle.run.specs.Runs.{loopRun, reasonAtRest};
 use isa::answer::Reason;
 use isa::machine::Control;
 use isa::machine::Core;
@@ -86,7 +86,7 @@ pub fn run_in(
     requires { ⌜ (length (now regs) ≡ registerWords) × (length (now pcrs) ≡ levelCount) ⌝ }
     requires { ⌜ length (now tables) ≡ tableWords ⌝ }
     ensures { λ r. ⌜ r .level < levelCount ⌝ }
-    ensures { λ r. ⌜ runOf r (now (regs .exit)) (now (pcrs .exit)) (now (mem .exit)) (now (tables .exit))
+    ensures { λ r. ⌜ loopRun r (now (regs .exit)) (now (pcrs .exit)) (now (mem .exit)) (now (tables .exit))
         ≡ runFrom first n 0 (pack start c (now (regs .entry)) (now (pcrs .entry))) (now (mem .entry))
         (now (tables .entry)) ⌝ }
     ensures { λ r. ⌜ (n ≡ 1 → first ≡ false

@@ -18,7 +18,7 @@ use Rattle.event.specs.declared.Event.{Event}
 use Rattle.event.specs.declared.Event.the-variants.{Fine}
 use Rattle.paging.specs.Levels.{levelRights, onRing}
 use Rattle.paging.proofs.Levels.{ring-rights, ring-twice}
-use Rattle.exec_memory.specs.Stages.{coreOf}
+use Rattle.exec_memory.specs.Stages.{levelCore}
 use Rattle.exec_step.specs.Steps.{StepOfLevel}
 use Rattle.exec_step.specs.declared.LevelStep.{LevelStep}
 use Rattle.run_level.specs.Bursts.{Levels, Executes, leaves, goesOn, QuietSteps, QuietStep}
@@ -36,23 +36,24 @@ pub record Level : Type 0 where
 abbrev pub Steps : ℕ → Level → Level → Event → Type 0
 Steps g a b e =
     (l : ℕ) (k : Control) → k .paging ≡ g
-    → stepIn l (coreOf (a .file) (a .pcr) k) (a .memory) (a .tables)
-    ≡ eventPart l (coreOf (b .file) (b .pcr) k) (b .memory) (b .tables) e
+    → stepIn l (levelCore (a .file) (a .pcr) k) (a .memory) (a .tables)
+    ≡ eventPart l (levelCore (b .file) (b .pcr) k) (b .memory) (b .tables) e
 
 -- a run of n steps from a goes on at b, behind `before` of them
 abbrev pub Reaches : ℕ → ℕ → Level → ℕ → Level → Type 0
 Reaches g n a before b =
     (first : Bool) (l j : ℕ) (k : Control) (regs pcrs : List ℕ) → k .paging ≡ g → Executes l k → Levels l regs pcrs
-    → runFrom first n j (pack l (coreOf (a .file) (a .pcr) k) regs pcrs) (a .memory) (a .tables)
-    ≡ runFrom first (n - before) (j + before) (pack l (coreOf (b .file) (b .pcr) k) regs pcrs) (b .memory) (b .tables)
+    → runFrom first n j (pack l (levelCore (a .file) (a .pcr) k) regs pcrs) (a .memory) (a .tables)
+    ≡ runFrom first (n - before) (j + before) (pack l (levelCore (b .file) (b .pcr) k) regs pcrs) (b .memory)
+    (b .tables)
 
 -- .. behind one more, which left something to be done
 abbrev pub Ends : ℕ → ℕ → Level → ℕ → Level → Event → Type 0
 Ends g n a before b e =
     (first : Bool) (l j : ℕ) (k : Control) (regs pcrs : List ℕ) → k .paging ≡ g → Executes l k → Levels l regs pcrs
-    → runFrom first n j (pack l (coreOf (a .file) (a .pcr) k) regs pcrs) (a .memory) (a .tables)
+    → runFrom first n j (pack l (levelCore (a .file) (a .pcr) k) regs pcrs) (a .memory) (a .tables)
     ≡ goesOn first n j before
-    (leaves l regs pcrs (eventPart l (coreOf (b .file) (b .pcr) k) (b .memory) (b .tables) e))
+    (leaves l regs pcrs (eventPart l (levelCore (b .file) (b .pcr) k) (b .memory) (b .tables) e))
 
 -- `before` quiet steps lead from a to b
 pub record Quiet (g n : ℕ) (a : Level) (before : ℕ) (b : Level) : Type 0 where
@@ -68,7 +69,7 @@ at-start g n a = record {
   reaches = λ first l j k regs pcrs p x v.
       let e : j ≡ j + 0 = omega arith in
       let d : n ≡ n - 0 = omega arith in
-      λ i. runFrom first (d i) (e i) (pack l (coreOf (a .file) (a .pcr) k) regs pcrs) (a .memory) (a .tables);
+      λ i. runFrom first (d i) (e i) (pack l (levelCore (a .file) (a .pcr) k) regs pcrs) (a .memory) (a .tables);
   none = λ z. refl;
   one = λ z. absurd (omega (arith, z));
 }
@@ -77,7 +78,7 @@ at-start g n a = record {
 module _ {g n : ℕ} {a b : Level} (q : Quiet g n a n b) (h : 0 < n) where
   pub all-quiet : Ends g n a (n - 1) b Fine
   all-quiet first l j k regs pcrs p x w =
-      let c : Core = coreOf (b .file) (b .pcr) k in
+      let c : Core = levelCore (b .file) (b .pcr) k in
       let e : n ≡ suc (n - 1) = omega (arith, h) in
       q .reaches first l j k regs pcrs p x w
       ∙ ap (λ (y : ℕ). runFrom first (n - y) (j + y) (pack l c regs pcrs) (b .memory) (b .tables)) e
@@ -91,7 +92,7 @@ module _ {g n : ℕ} {a b : Level} {before : ℕ} (q : Quiet g n a before b) (h 
   -- one step more
   pub then-ends : (d : Level) (e : Event) → Steps g b d e → Ends g n a before d e
   then-ends d e s first l j k regs pcrs p x w =
-      let c : Core = coreOf (b .file) (b .pcr) k in
+      let c : Core = levelCore (b .file) (b .pcr) k in
       q .reaches first l j k regs pcrs p x w
       ∙ runs-on first n j before (pack l c regs pcrs) (b .memory) (b .tables) h (x .runs)
       (no-change first (pack l c regs pcrs) (x .stays))
@@ -105,7 +106,7 @@ module _ {g n : ℕ} {a b : Level} {before : ℕ} (q : Quiet g n a before b) (h 
   then-quiet d s = record {
     most = h;
     reaches = λ first l j k regs pcrs p x v.
-        let c : Core = coreOf (d .file) (d .pcr) k in
+        let c : Core = levelCore (d .file) (d .pcr) k in
         then-ends d Fine s first l j k regs pcrs p x v
         ∙ ap (goesOn first n j before) (fine-leaves l c regs pcrs (d .memory) (d .tables))
         ∙ goes-on first n j before (pack l c regs pcrs) (d .memory) (d .tables);
@@ -125,7 +126,7 @@ stepped g p ring f m t {r} s m' t' h e d l k q =
     let rights : levelRights (loweredPcr p ring) (k .paging) ≡ r =
     ap (levelRights (loweredPcr p ring)) q ∙ ring-rights p ring g h ∙ sym e in
     sym (d l (loweredPcr p ring) k rights)
-    ∙ ap (λ (x : ℕ). eventPart l (coreOf (s .file) x k) m' t' (s .event)) (ring-twice p ring (s .ring) h)
+    ∙ ap (λ (x : ℕ). eventPart l (levelCore (s .file) x k) m' t' (s .event)) (ring-twice p ring (s .ring) h)
 
 -- what quiet_steps answers
 abbrev pub Answered : File → ℕ → ℕ → List ℕ → List ℕ → ℕ → List ℕ → List ℕ → Burst → Type 0

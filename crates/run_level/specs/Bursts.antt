@@ -12,7 +12,7 @@ use Rattle.isa.specs.Run.{Run, afterStep, runFrom}
 use Rattle.isa.specs.declared.machine.Control.{Control}
 use Rattle.isa.specs.declared.machine.File.{File}
 use Rattle.event.specs.Events.{eventPart}
-use Rattle.exec_memory.specs.Stages.{coreOf}
+use Rattle.exec_memory.specs.Stages.{levelCore}
 use Rattle.levels.specs.Changes.{dueAt}
 use Rattle.run_level.specs.declared.Burst.{Burst}
 
@@ -38,16 +38,16 @@ goesOn first n j before r = afterStep first (runFrom first (n - suc before)) (j 
 
 -- what a burst leaves of the level
 abbrev pub burstPart : ℕ → Control → Burst → List ℕ → List ℕ → Part
-burstPart l k b m t = eventPart l (coreOf (b .file) (b .pcr) k) m t (b .event)
+burstPart l k b m t = eventPart l (levelCore (b .file) (b .pcr) k) m t (b .event)
 
 -- in every machine whose level has these registers and PCR and this paging switch
 abbrev pub QuietSteps : File → ℕ → ℕ → List ℕ → List ℕ → ℕ → Burst → List ℕ → List ℕ → Type 0
 QuietSteps f p g m t n b m' t' =
     (first : Bool) (l j : ℕ) (k : Control) (regs pcrs : List ℕ) → k .paging ≡ g → Executes l k → Levels l regs pcrs
-    → runFrom first n j (pack l (coreOf f p k) regs pcrs) m t
+    → runFrom first n j (pack l (levelCore f p k) regs pcrs) m t
     ≡ goesOn first n j (b .before) (leaves l regs pcrs (burstPart l k b m' t'))
 
 -- .. and where the burst is one step
 abbrev pub QuietStep : File → ℕ → ℕ → List ℕ → List ℕ → Burst → List ℕ → List ℕ → Type 0
 QuietStep f p g m t b m' t' =
-    b .before ≡ 0 → (l : ℕ) (k : Control) → k .paging ≡ g → stepIn l (coreOf f p k) m t ≡ burstPart l k b m' t'
+    b .before ≡ 0 → (l : ℕ) (k : Control) → k .paging ≡ g → stepIn l (levelCore f p k) m t ≡ burstPart l k b m' t'

@@ -5,5 +5,5 @@ use Rattle.isa.specs.Step.{Part}
 use Rattle.isa.specs.declared.answer.Near.{Near}
 
 -- what a step leaves of the running level, with memory and tables
-abbrev pub partOf : Near → List ℕ → List ℕ → Part
-partOf n m t = record { near = n; memory = m; tables = t }
+abbrev pub nearPart : Near → List ℕ → List ℕ → Part
+nearPart n m t = record { near = n; memory = m; tables = t }

@@ -7,7 +7,7 @@ ghost use lib.ListN.{length};
 ghost use Rattle.isa.specs.Step.{faulted, failed, trapped, part, examined, deposited, systemStage};
 ghost use Rattle.isa.specs.Step.{physicalAddress};
 ghost use Rattle.event.specs.Events.{eventPart};
-ghost use Rattle.trap.specs.Parts.{partOf};
+ghost use Rattle.trap.specs.Parts.{nearPart};
 use control::instruction::controlled;
 use control::interrupt::gives;
 use event::Event;
@@ -32,7 +32,7 @@ use paging::translation::physical;
 
 // Whatever memory and tables hold.
 fn left(c: Core, gave: u16, far: Far) -> Near
-    ensures { λ n. ⌜ ((m t : List ℕ) → partOf n m t ≡ part c gave far m t) ⌝ }
+    ensures { λ n. ⌜ ((m t : List ℕ) → nearPart n m t ≡ part c gave far m t) ⌝ }
 {
     Near {
         core: c,
@@ -51,14 +51,14 @@ pub fn faulted(x: Translation, c: Core) -> Core
 }
 
 fn failed(c: Core, x: Translation) -> Near
-    ensures { λ n. ⌜ ((m t : List ℕ) → partOf n m t ≡ failed c x m t) ⌝ }
+    ensures { λ n. ⌜ ((m t : List ℕ) → nearPart n m t ≡ failed c x m t) ⌝ }
 {
     left(faulted(x, c), fault_of(x), Far::Nothing)
 }
 
 fn trapped(n: u16, c: Core) -> Near
     requires { ⌜ n < 16 ⌝ }
-    ensures { λ r. ⌜ ((m t : List ℕ) → partOf r m t ≡ trapped n c m t) ⌝ }
+    ensures { λ r. ⌜ ((m t : List ℕ) → nearPart r m t ≡ trapped n c m t) ⌝ }
 {
     left(gives(n, c), n, Far::Nothing)
 }
@@ -76,7 +76,7 @@ fn physical_address(c: Core) -> usize
 
 fn examined(c: Core, mem: &[u16], tables: &[u16]) -> Near
     requires { ⌜ length (now tables) ≡ tableWords ⌝ }
-    ensures { λ n. ⌜ ((t : List ℕ) → partOf n (now (mem .entry)) t ≡ examined c (now (mem .entry)) t) ⌝ }
+    ensures { λ n. ⌜ ((t : List ℕ) → nearPart n (now (mem .entry)) t ≡ examined c (now (mem .entry)) t) ⌝ }
 {
     let x = physical(mem.len(), AccessKind::Read, physical_address(c));
     if fault_of(x) == 0 {
@@ -89,7 +89,7 @@ fn examined(c: Core, mem: &[u16], tables: &[u16]) -> Near
 
 fn deposited(c: Core, mem: &mut [u16], tables: &mut [u16]) -> Near
     requires { ⌜ length (now tables) ≡ tableWords ⌝ }
-    ensures { λ n. ⌜ partOf n (now (mem .exit)) (now (tables .exit))
+    ensures { λ n. ⌜ nearPart n (now (mem .exit)) (now (tables .exit))
         ≡ deposited c (now (mem .entry)) (now (tables .entry)) ⌝ }
 {
     let x = physical(mem.len(), AccessKind::Write, physical_address(c));
@@ -105,7 +105,7 @@ fn deposited(c: Core, mem: &mut [u16], tables: &mut [u16]) -> Near
 fn system_stage(level: u16, c: Core, mem: &mut [u16], tables: &mut [u16], q: System) -> Near
     requires { ⌜ level < levelCount ⌝ }
     requires { ⌜ length (now tables) ≡ tableWords ⌝ }
-    ensures { λ n. ⌜ partOf n (now (mem .exit)) (now (tables .exit))
+    ensures { λ n. ⌜ nearPart n (now (mem .exit)) (now (tables .exit))
         ≡ systemStage level c (now (mem .entry)) (now (tables .entry)) q ⌝ }
 {
     match q {
@@ -128,7 +128,7 @@ fn system_stage(level: u16, c: Core, mem: &mut [u16], tables: &mut [u16], q: Sys
 pub fn after_event(level: u16, c: Core, mem: &mut [u16], tables: &mut [u16], e: Event) -> Near
     requires { ⌜ level < levelCount ⌝ }
     requires { ⌜ length (now tables) ≡ tableWords ⌝ }
-    ensures { λ n. ⌜ partOf n (now (mem .exit)) (now (tables .exit))
+    ensures { λ n. ⌜ nearPart n (now (mem .exit)) (now (tables .exit))
         ≡ eventPart level c (now (mem .entry)) (now (tables .entry)) e ⌝ }
 {
     match e {

@@ -15,7 +15,7 @@ use Rattle.isa.specs.declared.answer.Answer.{Answer}
 use Rattle.isa.specs.declared.machine.State.{State}
 use Rattle.image_load.specs.Loading.{callOf}
 use Rattle.image_load.specs.declared.LoadResult.{LoadResult}
-use Rattle.turn_text.specs.Turn.{loadedBy, clearedState, imageTurned}
+use Rattle.turn_text.specs.Turn.{afterLoad, clearedState, imageTurned}
 use Rattle.turn_text.specs.Bytes.{bytesAsWords}
 use Rattle.io.specs.Digits.{glyph, digits, Fewest}
 use Rattle.turn_text.specs.Text.{decimalBefore, decimal, octal, line, registerLines}
@@ -149,8 +149,8 @@ lines-all all text names words i h e =
 -- what load answers and leaves decides
 pub loaded-by : (r : LoadResult) (m′ t′ i m t : List ℕ) (a : Answer) (s : State) → r .answer ≡ a
     → callOf r m′ t′ ≡ loadCall s i m t → s ≡ clearedState
-    → loadedBy a (callOf r m′ t′) ≡ imageTurned i m t
+    → afterLoad a (callOf r m′ t′) ≡ imageTurned i m t
 unfolding imageTurned
 loaded-by r m′ t′ i m t a s d e z =
-    ap (λ (x : Answer). loadedBy x (callOf r m′ t′)) (sym d)
-    ∙ ap (λ (c : LoadCall). loadedBy (c .answer) c) (e ∙ ap (λ (x : State). loadCall x i m t) z)
+    ap (λ (x : Answer). afterLoad x (callOf r m′ t′)) (sym d)
+    ∙ ap (λ (c : LoadCall). afterLoad (c .answer) c) (e ∙ ap (λ (x : State). loadCall x i m t) z)

@@ -20,8 +20,8 @@ use Rattle.turn_text.specs.declared.Turned.{Turned}
 use Rattle.turn_text.specs.declared.Turned.the-variants.{Refused, Ended}
 
 -- "registers at 8 × level + number", of the running level
-abbrev pub register : State → Register → ℕ
-register s r = getD (s .regs) (s .level * fileSize + number r) 0
+abbrev pub levelRegister : State → Register → ℕ
+levelRegister s r = getD (s .regs) (s .level * fileSize + number r) 0
 
 -- "prints reason .. steps and level in decimal, then the running level's registers in octal"
 abbrev pub endOf : Reason → ℕ → State → End
@@ -40,9 +40,9 @@ ranBy (RunRefused r) s = Refused r
 unfoldable pub ranFrom : State → List ℕ → List ℕ → Turned
 ranFrom s m t = let r = runCall false 1000 s m t in ranBy (r .answer) (r .state)
 
-abbrev pub loadedBy : Answer → LoadCall → Turned
-loadedBy Done c = ranFrom (c .state) (c .memory) (c .tables)
-loadedBy (AnswerRefused r) c = Refused r
+abbrev pub afterLoad : Answer → LoadCall → Turned
+afterLoad Done c = ranFrom (c .state) (c .memory) (c .tables)
+afterLoad (AnswerRefused r) c = Refused r
 
 -- the state that load is handed, which nothing is taken from
 abbrev pub clearedState : State
@@ -50,7 +50,7 @@ clearedState = stateOf (replicate registerWords 0) (replicate controlCount 0)
 
 -- an image loaded into lent memory and page tables, and run
 unfoldable pub imageTurned : List ℕ → List ℕ → List ℕ → Turned
-imageTurned i m t = let c = loadCall clearedState i m t in loadedBy (c .answer) c
+imageTurned i m t = let c = loadCall clearedState i m t in afterLoad (c .answer) c
 
 -- "(at most 65,536 bytes; more, or an odd count, is 8 before all else), lends 16 pages"
 unfoldable pub turned : List ℕ → Turned

@@ -1,7 +1,7 @@
 // `turn` of document 01: from the bytes of an image to the text that is printed.
 ghost use mathlib.Core.Path.{_≡_};
 ghost use Rattle.turn_text.specs.Turn.{endOf, ranFrom, clearedState, imageTurned, turned};
-ghost use Rattle.turn_text.specs.Turn.{register as Turn·register};
+ghost use Rattle.turn_text.specs.Turn.{levelRegister};
 use crate::bytes::put_words;
 use isa::answer::Answer;
 use isa::answer::Reason;
@@ -43,7 +43,7 @@ pub enum Turned {
 
 // A register of the running level.
 fn register(s: State, r: Register) -> u16
-    ensures { λ v. ⌜ v ≡ Turn·register s r ⌝ }
+    ensures { λ v. ⌜ v ≡ levelRegister s r ⌝ }
 {
     let i = s.level as usize * FILE_SIZE + r.index();
     if i < REGISTER_WORDS {

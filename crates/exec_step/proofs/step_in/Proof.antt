@@ -24,7 +24,7 @@ ring-read c = translated c .before .before
 abbrev started : tie.After-fault-of → tie.Start
 started c = let got = ring-read c .before .before in got .before .before .before
 
-abbrev executed : tie.After-permitted → tie.After-executed-word
+abbrev executed : tie.After-by-privilege → tie.After-executed-word
 executed c = let left = c .before .before .before .before in left .before .before .before
 
 abbrev loaded : tie.After-on-ring → tie.After-word-at
@@ -94,8 +94,8 @@ executed-word-requires c κs =
 privileged-requires : tie.Need-privileged-requires
 privileged-requires c κs = search needs
 
-permitted-requires : tie.Need-permitted-requires
-permitted-requires c κs = search needs
+by-privilege-requires : tie.Need-by-privilege-requires
+by-privilege-requires c κs = search needs
 
 same-length : tie.Need-same-length
 same-length c = search needs
@@ -124,7 +124,7 @@ returns c =
       small,
       step-passed (fetched tested) (q .result) _ (done .executed-word .result) _ _ (passed on .if1 .taken)
           (started tested .pre .1 .0) (q .ensures)
-          (c .before .privileged .ensures ∙ ap privilegedBy (on .on-ring .ensures)) (c .permitted .ensures)
+          (c .before .privileged .ensures ∙ ap privilegedBy (on .on-ring .ensures)) (c .by-privilege .ensures)
           (loaded on .word-at .ensures) word,
     )
 
@@ -149,7 +149,7 @@ step-in-spec =
     next-requires
     executed-word-requires
     privileged-requires
-    permitted-requires
+    by-privilege-requires
     same-length
     same-length-2
     returns

@@ -9,7 +9,7 @@ use Rattle.isa.specs.Step.{instructionStage}
 use Rattle.event.specs.declared.Ending.{Ending}
 use Rattle.event.specs.declared.Event.the-variants.{Monitor}
 use Rattle.event.specs.declared.Event.{Event}
-use Rattle.event.specs.Events.{eventPart, permitted}
+use Rattle.event.specs.Events.{eventPart, byPrivilege}
 use Rattle.isa.specs.Machine.{nextCore}
 use Rattle.isa.specs.Step.{privileged}
 use Rattle.exec_memory.proofs.Stages.{file-left}
@@ -68,7 +68,7 @@ returns c =
 
 -- Privileged
 returns-2 : tie.Need-returns-2
-unfolding instructionStage eventPart permitted
+unfolding instructionStage eventPart byPrivilege
 returns-2 c =
     let told = c .before .before in
     let start = told .before .before .before .before in
@@ -80,7 +80,7 @@ returns-2 c =
 
 -- Execute
 returns-3 : tie.Need-returns-3
-unfolding instructionStage eventPart permitted
+unfolding instructionStage eventPart byPrivilege
 returns-3 c =
     let told = c .before in
     let start = told .before .before .before .before in
@@ -91,7 +91,7 @@ returns-3 c =
 
 -- Monitor
 returns-4 : tie.Need-returns-4
-unfolding instructionStage eventPart permitted
+unfolding instructionStage eventPart byPrivilege
 returns-4 c =
     let told = c .before .before in
     let start = told .before .before .before .before in
@@ -105,7 +105,7 @@ returns-4 c =
 
 -- Illegal
 returns-5 : tie.Need-returns-5
-unfolding instructionStage eventPart permitted
+unfolding instructionStage eventPart byPrivilege
 returns-5 c =
     let told = c .before in
     let start = told .before .before .before .before in

@@ -1,9 +1,9 @@
 -- Event by event; a privileged instruction by the ring.
 -- Assumes nothing.
-use Rattle.event.specs.Events.{permitted}
+use Rattle.event.specs.Events.{byPrivilege}
 use borrow.Author.Needs.{needs}
-use Rattle.event.proofs.permitted.Statement.{statement}
-use Rattle.event.proofs.permitted.Tie as tie
+use Rattle.event.proofs.by_privilege.Statement.{statement}
+use Rattle.event.proofs.by_privilege.Tie as tie
 
 enum-told : tie.Need-enum-told
 enum-told c = search needs
@@ -19,7 +19,7 @@ enum-told-4 c = search needs
 
 -- a privileged instruction, permitted
 returns : tie.Need-returns
-unfolding permitted
+unfolding byPrivilege
 returns c = simp (c .before .enum-told4 .given .1, c .if1 .taken)
 
 enum-told-5 : tie.Need-enum-told-5
@@ -33,41 +33,41 @@ enum-told-7 c = search needs
 
 -- Fine
 returns-2 : tie.Need-returns-2
-unfolding permitted
+unfolding byPrivilege
 returns-2 c = simp (c .enum-told .given .1)
 
 -- Failed
 returns-3 : tie.Need-returns-3
-unfolding permitted
+unfolding byPrivilege
 returns-3 c = simp (c .enum-told2 .given .1)
 
 -- Error
 returns-4 : tie.Need-returns-4
-unfolding permitted
+unfolding byPrivilege
 returns-4 c = simp (c .enum-told3 .given .1)
 
 -- .. and not permitted
 returns-5 : tie.Need-returns-5
-unfolding permitted
+unfolding byPrivilege
 returns-5 c = simp (c .before .enum-told4 .given .1, c .if1 .left)
 
 -- NotPrivileged
 returns-6 : tie.Need-returns-6
-unfolding permitted
+unfolding byPrivilege
 returns-6 c = simp (c .enum-told5 .given .1)
 
 -- Monitor
 returns-7 : tie.Need-returns-7
-unfolding permitted
+unfolding byPrivilege
 returns-7 c = simp (c .enum-told6 .given .1)
 
 -- Illegal
 returns-8 : tie.Need-returns-8
-unfolding permitted
+unfolding byPrivilege
 returns-8 c = simp (c .enum-told7 .given .1)
 
-pub permitted-spec : {M : Type 1} → statement M
-permitted-spec =
+pub by-privilege-spec : {M : Type 1} → statement M
+by-privilege-spec =
     tie.close
     (tie.spec
     enum-told
