@@ -4,9 +4,9 @@ use Prim.Native.Nat.{ℕ, zero, suc, _+_, _-_, _*_, _%_, _^_, _<_, _≤_, zero-l
 use native.Mathlib.Nat.{mul-le-mul}
 use native.Mathlib.Omega.{arith}
 use mathlib.Core.Path.{_≡_, refl, sym, ap, _∙_, subst}
-use mathlib.Core.Bool.{Bool, true, false, cond, _||_, or-false}
+use mathlib.Core.Bool.{Bool, false, _||_, or-false}
 use lib.Dec.{T, ltb, lit<, leb·suc-suc}
-use lib.IntN.{ℤ, pos, negsuc, negℤ, natAbs, subℕ, _+ℤ_, _-ℤ_, _*ℤ_}
+use lib.IntN.{ℤ, pos, negsuc, negℤ, natAbs, _+ℤ_, _-ℤ_, _*ℤ_}
 use lib.Signed.{mag, ltZ, nonNeg}
 use borrow.Author.Tests.{lt-ltb, le-ltb}
 use mir.Syntax.{w64}
@@ -67,20 +67,7 @@ word-size a z l e = subst (λ (x : ℤ). mag x < 32768) (sym e) (signed-range 16
 pub double-size : (n : ℕ) (z : ℤ) → n < 4294967296 → z ≡ signedOf 32 n → mag z < 2147483648
 double-size n z l e = subst (λ (x : ℤ). mag x < 2147483648) (sym e) (signed-range 32 n (lit< tt) l)
 
--- ---- sums and products
-
-difference-size : (a b : ℕ) → mag (subℕ a (suc b)) ≤ a + b
-difference-size a b = go (ltb a (suc b)) refl
-  where
-    go : (t : Bool) → ltb a (suc b) ≡ t → mag (cond t (negsuc (suc b - suc a)) (pos (a - suc b))) ≤ a + b
-    go true q = omega arith
-    go false q = omega arith
-
-pub sum-size : (x y : ℤ) → mag (x +ℤ y) ≤ suc (mag x + mag y)
-sum-size (pos a) (pos b) = omega arith
-sum-size (pos a) (negsuc b) = omega (arith, difference-size a b)
-sum-size (negsuc a) (pos b) = omega (arith, difference-size b a)
-sum-size (negsuc a) (negsuc b) = omega arith
+-- ---- products
 
 pub negated-size : (k : ℕ) → mag (negℤ (pos k)) ≤ k
 negated-size zero = zero-le
@@ -169,7 +156,7 @@ low-half (negsuc n) = omega arith
 pub held-size : (z : ℤ) (k : ℕ) → k ≤ 2 ^ 63 → mag z < k → mag (toZ w64 (ofZ w64 z)) < k
 held-size z k h l = subst (λ (x : ℤ). mag x < k) (sym (toZ-ofZ w64 z (record { sfits = omega arith }))) l
 
--- ---- operations on the signed meanings of two words
+-- ---- the product of the signed meanings of two words
 module _ (a b : ℕ) (x y : ℤ) (ha : a < 65536) (hb : b < 65536) (ex : x ≡ signedOf 16 a) (ey : y ≡ signedOf 16 b) where
   mx : mag x < 32768
   mx = word-size a x ha ex
@@ -185,34 +172,6 @@ module _ (a b : ℕ) (x y : ℤ) (ha : a < 65536) (hb : b < 65536) (ex : x ≡ s
 
   pub product-read : toZ w64 (ofZ w64 (toZ w64 (ofZ w64 x) *ℤ toZ w64 (ofZ w64 y))) ≡ product a b
   product-read = result-of _*ℤ_ x y (omega (arith, mx)) (omega (arith, my)) product-small ex ey
-
-  sum-small : mag (x +ℤ y) < 2 ^ 17
-  sum-small = omega (arith, sum-size x y, mx, my)
-
-  pub sum-fits : SFits w64 (toZ w64 (ofZ w64 x) +ℤ toZ w64 (ofZ w64 y))
-  sum-fits = result-fits _+ℤ_ x y (omega (arith, mx)) (omega (arith, my)) (omega (arith, sum-small))
-
-  module _ (c : ℕ) (hc : c < 2) where
-    -- the sum of the two as it is held, and of the carry in
-    abbrev first : ℤ
-    first = toZ w64 (ofZ w64 x) +ℤ toZ w64 (ofZ w64 y)
-
-    first-is : first ≡ x +ℤ y
-    first-is = operands _+ℤ_ x y (omega (arith, mx)) (omega (arith, my)) (omega (arith, sum-small))
-
-    first-small : mag first < 2 ^ 17
-    first-small = subst (λ (z : ℤ). mag z < 2 ^ 17) (sym first-is) sum-small
-
-    total-small : mag (first +ℤ pos c) < 2 ^ 63
-    total-small = omega (arith, sum-size first (pos c), first-small)
-
-    pub total-fits : SFits w64 (toZ w64 (ofZ w64 first) +ℤ toZ w64 c)
-    total-fits = result-fits _+ℤ_ first (pos c) (omega (arith, first-small)) (omega arith) total-small
-
-    pub total-read : toZ w64 (ofZ w64 (toZ w64 (ofZ w64 first) +ℤ toZ w64 c)) ≡ signedOf 16 a +ℤ signedOf 16 b +ℤ pos c
-    total-read =
-        result-read _+ℤ_ first (pos c) (omega (arith, first-small)) (omega arith) total-small
-        ∙ ap (λ (z : ℤ). z +ℤ pos c) (first-is ∙ ap (λ (z : ℤ). z +ℤ y) ex ∙ ap (λ (z : ℤ). signedOf 16 a +ℤ z) ey)
 
 pub signed-product-size : (a b : ℕ) (z : ℤ) → a < 65536 → b < 65536 → z ≡ product a b → mag z < 2 ^ 32
 signed-product-size a b z ha hb e =

@@ -2,13 +2,12 @@
 ghost use mathlib.Core.Path.{_≡_};
 ghost use Prim.Native.Nat.{_<_};
 ghost use Rattle.isa.specs.Flags.{adder, withOverflow, withSum, complement};
+ghost use Rattle.isa.specs.Signs.{signIf, carryBySigns, overflowBySigns};
 use crate::bits;
-use crate::whole;
+use crate::signed::negative;
 use isa::constant::FLAG_C;
 use isa::constant::FLAG_O;
 use isa::constant::FLAG_Q;
-use isa::constant::WORD_BITS;
-use isa::constant::WORD_RANGE;
 
 // A sum's low 16 bits, the carry out of bit 15, and the signed overflow.
 pub struct Sum {
@@ -17,24 +16,26 @@ pub struct Sum {
     pub overflow: u16,
 }
 
-// 1 where the signed sum of a, b and the carry in c is beyond 16 bits.
-fn overflow_of(a: u16, b: u16, c: u16) -> u16
-    requires { ⌜ c < 2 ⌝ }
-    ensures { λ r. ⌜ r ≡ adder a b c .overflow ⌝ }
+// Carry and overflow of a sum by the signs of its operands, a and b, and of its low 16 bits, r; true is negative.
+// Signs equal: C is that sign, and O tells whether the result's is the other one. Signs different: C is 1 if the result
+// is not negative, and O is 0.
+fn by_signs(value: u16, a: bool, b: bool, r: bool) -> Sum
+    ensures value { λ s. ⌜ s .value ≡ value ⌝ }
+    ensures carry { λ s. ⌜ s .carry ≡ carryBySigns (signIf a) (signIf b) (signIf r) ⌝ }
+    ensures overflow { λ s. ⌜ s .overflow ≡ overflowBySigns (signIf a) (signIf b) (signIf r) ⌝ }
 {
-    whole::beyond(
-        whole::signed(WORD_BITS, a as u32) + whole::signed(WORD_BITS, b as u32) + c as i64,
-    )
-}
-
-// The carry out of bit 15.
-fn carry_of(a: u16, b: u16, c: u16) -> u16
-    requires { ⌜ c < 2 ⌝ }
-    ensures { λ r. ⌜ r ≡ adder a b c .carry ⌝ }
-    ensures { λ r. ⌜ r < 2 ⌝ }
-{
-    let s = a as u32 + b as u32 + c as u32;
-    (s / WORD_RANGE) as u16
+    if a == b {
+        return Sum {
+            value: value,
+            carry: a as u16,
+            overflow: (r != a) as u16,
+        };
+    }
+    Sum {
+        value: value,
+        carry: !r as u16,
+        overflow: 0,
+    }
 }
 
 // a + b with the carry in c.
@@ -46,11 +47,8 @@ pub fn add(a: u16, b: u16, c: u16) -> Sum
     ensures carry_bit { λ r. ⌜ r .carry < 2 ⌝ }
 {
     let half = std::num::wrapping_add_u16(a, b);
-    Sum {
-        value: std::num::wrapping_add_u16(half, c),
-        carry: carry_of(a, b, c),
-        overflow: overflow_of(a, b, c),
-    }
+    let value = std::num::wrapping_add_u16(half, c);
+    by_signs(value, negative(a), negative(b), negative(value))
 }
 
 // STS after an operation with the overflow o: overflow sets O and Q, without it O is 0 and Q stays.

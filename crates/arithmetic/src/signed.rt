@@ -1,12 +1,19 @@
 // Signed numbers in 16 bits: the fields of an instruction word, words as numbers and back, and the comparisons of SKP.
 ghost use mathlib.Core.Path.{_≡_};
 ghost use lib.Signed.{leZ};
-ghost use Rattle.isa.specs.Flags.{signedOf, bitsOf, wordDifference, compares};
+ghost use Rattle.isa.specs.Flags.{signedOf, negative, bitsOf, wordDifference, compares};
 ghost use Rattle.isa.specs.Decode.{displacementOf, countOf};
 use crate::whole::signed;
 use isa::constant::WORD_BITS;
 use isa::constant::WORD_RANGE;
 use isa::instruction::Relation;
+
+// Whether a word's sign, bit 15, is 1.
+pub fn negative(w: u16) -> bool
+    ensures { λ b. ⌜ b ≡ negative w ⌝ }
+{
+    32768 <= w
+}
 
 // The displacement in bits 7-0, -128 to 127.
 pub fn displacement(w: u16) -> i16

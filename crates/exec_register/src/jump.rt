@@ -1,15 +1,10 @@
 // Conditional jumps.
 ghost use mathlib.Core.Path.{_≡_};
-ghost use Rattle.isa.specs.Instructions.{negative, jumpIf, jumped};
+ghost use Rattle.isa.specs.Instructions.{jumpIf, jumped};
+use arithmetic::signed::negative;
 use isa::instruction::Condition;
 use isa::machine::File;
 use isa::machine::Register;
-
-fn negative(w: u16) -> bool
-    ensures { λ b. ⌜ b ≡ negative w ⌝ }
-{
-    32768 <= w
-}
 
 fn jump_if(c: bool, a: u16, f: File) -> File
     ensures { λ g. ⌜ g ≡ jumpIf c a f ⌝ }

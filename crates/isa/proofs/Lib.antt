@@ -1,6 +1,7 @@
 -- Laws about the definitions.
 pub mod Tests
 pub mod Signed
+pub mod Signs
 pub mod Shifts
 pub mod Window
 pub mod Marks

@@ -14,6 +14,10 @@ use Rattle.isa.specs.declared.instruction.ShiftKind.the-variants.{Arithm
 abbrev pub signedOf : ℕ → ℕ → ℤ
 signedOf k n = cond (ltb n (2 ^ (k - 1))) (pos n) (negsuc (2 ^ k - suc n))
 
+-- A word whose sign, bit 15, is 1.
+abbrev pub negative : ℕ → Bool
+negative w = leb 32768 w
+
 -- The low k bits of a whole number in two's complement.
 abbrev pub bitsOf : ℕ → ℤ → ℕ
 bitsOf k (pos n) = n % 2 ^ k

@@ -10,7 +10,7 @@ use lib.IntN.{ℤ}
 use Rattle.isa.specs.Machine.{wordRange, allOnes, bit, withBit, reg, withReg, flag, withFlag, next, number}
 use Rattle.isa.specs.Machine.{flagK, flagZ, flagC, flagM}
 use Rattle.isa.specs.Flags.{bitsOf, complement, Sum, adder, withSum, withOverflow, product, productOverflow}
-use Rattle.isa.specs.Flags.{quotient, remainder, divisionFails, shiftBy, compares}
+use Rattle.isa.specs.Flags.{negative, quotient, remainder, divisionFails, shiftBy, compares}
 use Rattle.isa.specs.Address.{sum, access, addressRule, indirectAccess, effectiveAddress, byteAddress}
 use Rattle.isa.specs.declared.machine.File.{File}
 use Rattle.isa.specs.declared.machine.Register.{Register}
@@ -173,9 +173,6 @@ memoryCompletion Jmp f a ws = loads (withReg f P a)
 memoryCompletion Jpl f a ws = loads (withReg (withReg f L (reg f P)) P a)
 
 -- Conditional jumps, by A or X; JPC and JNC count X first.
-abbrev pub negative : ℕ → Bool
-negative w = leb 32768 w
-
 abbrev pub countX : File → File
 countX f = withReg f X (sum (reg f X) 1)
 

@@ -3,6 +3,7 @@ pub mod Machine
 pub mod Decode
 pub mod Address
 pub mod Flags
+pub mod Signs
 pub mod Instructions
 pub mod System
 pub mod Pages

@@ -11,11 +11,11 @@ use lib.Bits.{and-lt, or-lt, xor-lt}
 use lib.IntN.{ℤ}
 use Rattle.isa.specs.Machine.{Words, reg, flag, next, flagM}
 use Rattle.isa.specs.Flags.{bitsOf, complement, adder, product, productOverflow, quotient, remainder, divisionFails}
-use Rattle.isa.specs.Flags.{shiftBy, compares}
+use Rattle.isa.specs.Flags.{negative, shiftBy, compares}
 use Rattle.isa.specs.Address.{sum, firstAddress, effectiveAddress}
 use Rattle.isa.specs.Instructions
 use Rattle.isa.specs.Instructions.{argumentRegister, Completed, loads, memoryCompletion, complete, isZero, operand}
-use Rattle.isa.specs.Instructions.{destinationOperand, sourceOperand, carryIn, negative, jumpIf, countX, jumped}
+use Rattle.isa.specs.Instructions.{destinationOperand, sourceOperand, carryIn, jumpIf, countX, jumped}
 use Rattle.isa.specs.Instructions.{combined, added, multiplied, shiftIn, shiftDouble, shifted, bitCompletion, evenX}
 use Rattle.isa.specs.Instructions.{loadedByte, storedByte, registerProduct, divided, doubleOf}
 use Rattle.isa.specs.declared.machine.File.{File}

@@ -1,11 +1,10 @@
 //! The proved engine, as the static library, against the second engine: random machines and programs, whole states
 //! compared after every step.
 
-mod engines;
 mod programs;
 mod report;
 
-use engines::{Answers, Both};
+use compare::engines::{Answers, Both};
 use second::random::Random;
 use second::vectors::Start;
 use std::process::ExitCode;

@@ -1,6 +1,6 @@
 //! The first difference: as small an image as still shows it, the instruction, and the words that differ.
 
-use crate::engines::Both;
+use compare::engines::Both;
 use second::vectors::Start;
 use second::{PAGE, State, disassemble, next_word};
 

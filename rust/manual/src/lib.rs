@@ -1,9 +1,11 @@
 //! The worked examples of the manuals as tables: document 002, the instruction set, and document 000, the functional
-//! description. The tests `manual` of `second` and `nd110` hold the second engine and the proved engine to them.
+//! description; and those of docs/ARITHMETIC.md. The tests `manual` of `second` and `nd110` hold the second engine and
+//! the proved engine to them.
 //!
-//! What must come is typed from the manuals; no engine computes it. An example is a whole machine before and after, and
+//! What must come is typed from the manuals, or stands on the page; no engine computes it. An example is a whole machine before and after, and
 //! every word that it does not name must stay.
 
+mod arithmetic;
 mod document000;
 mod document002;
 mod words;
@@ -36,6 +38,8 @@ pub enum Source {
     Page(u16),
     /// Of document 000.
     Section(&'static str),
+    /// docs/ARITHMETIC.md.
+    Arithmetic,
 }
 
 impl fmt::Display for Source {
@@ -43,6 +47,7 @@ impl fmt::Display for Source {
         match self {
             Source::Page(page) => write!(f, "document 002, page {page}"),
             Source::Section(section) => write!(f, "document 000, section {section}"),
+            Source::Arithmetic => write!(f, "docs/ARITHMETIC.md"),
         }
     }
 }
@@ -62,9 +67,10 @@ pub struct Example {
     pub after: Words,
 }
 
-/// Those of both manuals.
+/// Those of both manuals and of the page.
 pub fn examples() -> impl Iterator<Item = &'static Example> {
-    document002::EXAMPLES.iter().chain(document000::EXAMPLES)
+    let manuals = document002::EXAMPLES.iter().chain(document000::EXAMPLES);
+    manuals.chain(arithmetic::EXAMPLES.iter())
 }
 
 /// A machine in the words that all engines know.

@@ -8,14 +8,16 @@ pub(crate) struct Sum {
     pub overflow: bool,
 }
 
-/// The 16-bit adder with its carry and signed overflow.
+/// The 16-bit adder with its carry and signed overflow. Whole numbers on
+/// purpose, in every part: the proved engine decides both by the signs of the
+/// operands and of the result, and only a reading of another kind can hold it.
 pub(crate) fn add(a: u16, b: u16, carry: bool) -> Sum {
-    let wide = u32::from(a) + u32::from(b) + u32::from(carry);
-    let value = wide as u16;
+    let unsigned = u32::from(a) + u32::from(b) + u32::from(carry);
+    let signed = i32::from(a as i16) + i32::from(b as i16) + i32::from(carry);
     Sum {
-        value,
-        carry: wide > 0xffff,
-        overflow: (a ^ value) & (b ^ value) & 0x8000 != 0,
+        value: unsigned as u16,
+        carry: unsigned > 65_535,
+        overflow: !(-32_768..=32_767).contains(&signed),
     }
 }
 
@@ -171,19 +173,29 @@ mod tests {
         }
     }
 
+    /// The cases of ruling D4, by the signs of the operands and of the result.
+    fn flags_by_signs(a: u16, b: u16, value: u16) -> (bool, bool) {
+        let negative = |word: u16| word >= 0o100000;
+        if negative(a) == negative(b) {
+            (negative(a), negative(value) != negative(a))
+        } else {
+            (!negative(value), false)
+        }
+    }
+
     #[test]
-    fn adder_by_wider_arithmetic() {
-        let ends = [0, 1, 2, 0x7ffe, 0x7fff, 0x8000, 0x8001, 0xfffe, 0xffff];
-        for a in ends {
+    fn adder_by_signs() {
+        let ends = [
+            0, 1, 0o77776, 0o77777, 0o100000, 0o100001, 0o177776, 0o177777,
+        ];
+        for a in 0..=0o177777u16 {
             for b in ends {
                 for carry in [false, true] {
                     let sum = add(a, b, carry);
-                    let one = i32::from(carry);
-                    let unsigned = i32::from(a) + i32::from(b) + one;
-                    let signed = i32::from(a as i16) + i32::from(b as i16) + one;
-                    assert_eq!(i32::from(sum.value), unsigned & 0xffff);
-                    assert_eq!(sum.carry, unsigned > 0xffff);
-                    assert_eq!(sum.overflow, !(-32_768..=32_767).contains(&signed));
+                    let value = a.wrapping_add(b).wrapping_add(carry.into());
+                    let (c, o) = flags_by_signs(a, b, value);
+                    let given = (sum.value, sum.carry, sum.overflow);
+                    assert_eq!(given, (value, c, o), "{a:o} {b:o} {carry}");
                 }
             }
         }

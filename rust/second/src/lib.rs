@@ -4,6 +4,7 @@
 //! document 000 (paging and interrupts). `NOTES.md` lists the choices where
 //! these leave something open.
 
+pub mod additions;
 mod address;
 mod answer;
 mod arithmetic;

@@ -2,6 +2,7 @@
 
 use super::Case;
 use crate::decode::Reg;
+use crate::state::flag;
 
 /// Operands at the ends of their ranges.
 const ENDS: [u16; 8] = [
@@ -10,9 +11,35 @@ const ENDS: [u16; 8] = [
 /// All flags but PTM, and none.
 const FLAGS: [u16; 2] = [0, 0o376];
 
+/// Operands of additions, one pair for each row of signs (first operand,
+/// second operand, result): the sum is the last or the first word of its sign.
+/// The second is an argument too, and one less has the same sign.
+const AT_THE_EDGE: [(u16, u16); 8] = [
+    (0o77776, 1),
+    (0o77777, 1),
+    (1, 0o177777),
+    (0, 0o177777),
+    (0o177777, 1),
+    (0o177776, 1),
+    (0o100000, 0o177777),
+    (0o100001, 0o177777),
+];
+/// The same rows, far from the edge.
+const INSIDE: [(u16, u16); 8] = [
+    (0o23456, 0o12345),
+    (0o56701, 0o43210),
+    (0o65432, 0o134567),
+    (0o31415, 0o112233),
+    (0o134567, 0o65432),
+    (0o112233, 0o31415),
+    (0o102030, 0o123456),
+    (0o165432, 0o154321),
+];
+
 pub fn cases() -> Vec<Case> {
     let mut cases = Vec::new();
     arithmetic(&mut cases);
+    additions(&mut cases);
     products(&mut cases);
     division(&mut cases);
     skips(&mut cases);
@@ -50,6 +77,37 @@ fn arithmetic(cases: &mut Vec<Case>) {
     for operand in [0, 0o177776, 0o177777, 0o77777] {
         for sts in FLAGS {
             cases.push(operation("min", 0o040000, sts, 7, operand));
+        }
+    }
+}
+
+/// RADD of T to X, with its sub-instructions.
+fn radd(word: u16, sts: u16, x: u16, t: u16) -> Case {
+    let case = Case::step("radd").reg(Reg::Sts, sts);
+    case.reg(Reg::X, x).reg(Reg::T, t).at_p(word | 0o67)
+}
+
+/// Every row of signs by every way of adding. With a carry in the second
+/// operand is one less: the row stays, and at the edge the carry may decide it.
+fn additions(cases: &mut Vec<Case>) {
+    for (a, b) in AT_THE_EDGE.into_iter().chain(INSIDE) {
+        let less = b - 1;
+        for sts in FLAGS {
+            cases.push(operation("add", 0o060000, sts, a, b));
+            cases.push(operation("sub", 0o064000, sts, a, !less));
+            cases.push(radd(0o146000, sts, a, b));
+            cases.push(radd(0o146400, sts, a, less)); // AD1
+            cases.push(radd(0o147000, sts & !flag::C, a, b)); // ADC
+            cases.push(radd(0o147000, sts | flag::C, a, less));
+            cases.push(radd(0o146600, sts, a, !less)); // CM1 AD1
+        }
+    }
+    for (a, b) in AT_THE_EDGE {
+        for (label, word, reg) in [("aaa", 0o172400, Reg::A), ("aax", 0o173400, Reg::X)] {
+            for sts in FLAGS {
+                let case = Case::step(label).reg(Reg::Sts, sts).reg(reg, a);
+                cases.push(case.at_p(word | b & 0o377));
+            }
         }
     }
 }
@@ -366,5 +424,26 @@ fn execute(cases: &mut Vec<Case>) {
     // P as a source: the word is P's own value, one further.
     for p in [0o140577, 0o143177, 0o153176, 0o043777] {
         cases.push(Case::step("exr").reg(Reg::P, p).at_p(0o140620));
+    }
+}
+
+#[cfg(test)]
+mod tests {
+    use super::*;
+
+    #[test]
+    fn pairs_are_the_rows_of_signs() {
+        // Signs of the operands and of the sum, as a number.
+        let row = |a: u16, b: u16, sum: u16| (a >> 15) << 2 | (b >> 15) << 1 | sum >> 15;
+        for pairs in [AT_THE_EDGE, INSIDE] {
+            for carry in [0, 1] {
+                let rows = pairs.map(|(a, b)| row(a, b - carry, a.wrapping_add(b)));
+                assert_eq!(rows, [0, 1, 2, 3, 4, 5, 6, 7]);
+            }
+        }
+        for (a, b) in AT_THE_EDGE {
+            assert!([0o77777, 0o100000, 0, 0o177777].contains(&a.wrapping_add(b)));
+            assert!(i8::try_from(b as i16).is_ok());
+        }
     }
 }

@@ -1,0 +1,3 @@
+//! The proved engine, as the static library, beside the second engine.
+
+pub mod engines;

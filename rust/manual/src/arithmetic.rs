@@ -1,0 +1,148 @@
+//! The worked additions of docs/ARITHMETIC.md, read from the page itself: what it shows is what is executed.
+
+use crate::Place::{self, Memory};
+use crate::words::*;
+use crate::{Example, HERE, Source, Words};
+use std::sync::LazyLock;
+
+const PAGE: &str = include_str!("../../../docs/ARITHMETIC.md");
+
+pub static EXAMPLES: LazyLock<Vec<Example>> = LazyLock::new(|| worked().map(example).collect());
+
+/// Instruction, code, before, what is added, signs, after.
+type Line = [&'static str; 6];
+
+fn worked() -> impl Iterator<Item = Line> {
+    lines().filter(|[_, code, ..]: &Line| code.starts_with(|c: char| c.is_ascii_digit()))
+}
+
+fn example([text, code, before, _, _, after]: Line) -> Example {
+    Example::one(
+        Source::Arithmetic,
+        text,
+        octal(code),
+        words(before),
+        words(after),
+    )
+}
+
+/// The lines of the page's tables that have so many cells.
+fn lines<const CELLS: usize>() -> impl Iterator<Item = [&'static str; CELLS]> {
+    let tables = PAGE.lines().filter(|line| line.starts_with('|'));
+    tables.filter_map(|line| {
+        let cells: Vec<&str> = line.trim_matches('|').split('|').map(str::trim).collect();
+        cells.try_into().ok()
+    })
+}
+
+fn octal(text: &str) -> u16 {
+    u16::from_str_radix(text, 8).expect("an octal number")
+}
+
+/// A cell such as `A 000005, word 000003, C 1`.
+fn named(cell: &str) -> impl Iterator<Item = (&str, u16)> {
+    cell.split(", ").map(|item| {
+        let (name, value) = item.split_once(' ').expect("a name and a word");
+        (name, octal(value))
+    })
+}
+
+fn flag(name: &str) -> Option<u16> {
+    match name {
+        "C" => Some(C),
+        "O" => Some(O),
+        "Q" => Some(Q),
+        _ => None,
+    }
+}
+
+/// A register, or the word after the instruction.
+fn place(name: &str) -> Place {
+    match name {
+        "D" => D,
+        "B" => B,
+        "A" => A,
+        "T" => T,
+        "X" => X,
+        "word" => Memory(usize::from(HERE) + 1),
+        _ => panic!("{name} is no register, flag or word"),
+    }
+}
+
+/// Flags that are not named are 0.
+fn words(cell: &str) -> Words {
+    let flags = named(cell).filter_map(|(name, value)| Some(flag(name)? * value));
+    let others = named(cell).filter(|(name, _)| flag(name).is_none());
+    let mut words: Vec<_> = others.map(|(name, value)| (place(name), value)).collect();
+    words.push((STS, flags.sum()));
+    words.leak()
+}
+
+#[cfg(test)]
+mod tests {
+    use super::*;
+
+    /// The three signs, C and O.
+    type Row = [&'static str; 5];
+
+    fn table() -> Vec<Row> {
+        let signs = |[first, ..]: &Row| ["+", "-"].contains(first);
+        lines().filter(signs).collect()
+    }
+
+    fn sign(word: u16) -> &'static str {
+        if word < 0o100000 { "+" } else { "-" }
+    }
+
+    fn get(cell: &str, name: &str) -> u16 {
+        named(cell).find(|item| item.0 == name).map_or(0, |it| it.1)
+    }
+
+    #[test]
+    fn table_has_each_row_once() {
+        let rows: Vec<String> = table().iter().map(|row| row[..3].concat()).collect();
+        let all = ["+++", "++-", "+-+", "+--", "-++", "-+-", "--+", "---"];
+        assert_eq!(rows, all);
+    }
+
+    /// By whole numbers, and by the page's own table.
+    #[test]
+    fn every_line_is_right() {
+        for line in worked() {
+            let [_, _, before, adds, signs, after] = line;
+            let [a, b, c] = adds.split(" + ").map(octal).collect::<Vec<_>>()[..] else {
+                panic!("{adds} is not a + b + c");
+            };
+            let whole = u32::from(a) + u32::from(b) + u32::from(c);
+            let signed = i32::from(a as i16) + i32::from(b as i16) + i32::from(c);
+            let value = whole as u16;
+            let overflow = u16::from(!(-32_768..=32_767).contains(&signed));
+            let must = [
+                value,
+                u16::from(whole > 65_535),
+                overflow,
+                get(before, "Q") | overflow,
+            ];
+            let result = named(after).next().expect("a result").1;
+            let is = ["C", "O", "Q"].map(|name| get(after, name));
+            assert_eq!([result, is[0], is[1], is[2]], must, "{line:?}");
+
+            assert_eq!(signs, [sign(a), sign(b), sign(value)].join(" "), "{line:?}");
+            let row = table().into_iter().find(|row| row[..3].join(" ") == signs);
+            let [.., carry, overflow] = row.expect("a row of these signs");
+            assert_eq!([octal(carry), octal(overflow)], [is[0], is[1]], "{line:?}");
+        }
+    }
+
+    /// With and without a carry in.
+    #[test]
+    fn every_row_is_worked() {
+        for row in table() {
+            for carry in ["0", "1"] {
+                let signs = row[..3].join(" ");
+                let has = |line: Line| line[4] == signs && line[3].ends_with(carry);
+                assert!(worked().any(has), "{signs} with a carry in of {carry}");
+            }
+        }
+    }
+}
