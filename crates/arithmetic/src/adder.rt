@@ -16,7 +16,7 @@ pub struct Sum {
     pub overflow: u16,
 }
 
-// Carry and overflow of a sum by the signs of its operands, a and b, and of its low 16 bits, r; true is negative.
+// The sum with the low 16 bits value, by the signs of its operands, a and b, and of value, r; true is negative.
 // Signs equal: C is that sign, and O tells whether the result's is the other one. Signs different: C is 1 if the result
 // is not negative, and O is 0.
 fn by_signs(value: u16, a: bool, b: bool, r: bool) -> Sum

@@ -1,4 +1,5 @@
-// Signed numbers in 16 bits: the fields of an instruction word, words as numbers and back, and the comparisons of SKP.
+// Signed numbers in 16 bits: a word's sign, the fields of an instruction word, words as numbers and back, and the
+// comparisons of SKP.
 ghost use mathlib.Core.Path.{_≡_};
 ghost use lib.Signed.{leZ};
 ghost use Rattle.isa.specs.Flags.{signedOf, negative, bitsOf, wordDifference, compares};

@@ -31,7 +31,7 @@ in-half : (h n : ℕ) (s : Bool) → Half h n s → leb h n ≡ s
 in-half h n true l = le-leb h n l
 in-half h n false l = lt-leb h n l
 
--- the sum of a number that is not negative, x, a negative one, -(y + 1), and a carry in: never beyond
+-- the sum of a number that is not negative, x, a negative one, -(y + 1), and a carry in: within the signed range
 unlike-small : (h x y c : ℕ) → x < h → y < h → c < 2 → mag (subℕ x (suc y) +ℤ pos c) < h
 unlike-small h x y c p q l = go (ltb x (suc y)) refl
   where
@@ -145,7 +145,7 @@ module _ (k a b c : ℕ) (some : 0 < k) (ha : a < 2 ^ k) (hb : b < 2 ^ k) (hc : 
   overflow-neg false p q o = omega (arith, whole, negative-size, beyond (omega (arith, whole)) .0)
   overflow-neg true p q o = omega (arith, whole, negative-size, beyond (omega (arith, whole)) .0)
 
-  -- signs different: never
+  -- different signs: never
   overflow-left : Half h a true → Half h b false → Half h (size true false) false
   overflow-left p q = unlike-small h b (2 ^ k - suc a) c q (omega (arith, whole)) hc
 
@@ -181,6 +181,11 @@ module _ (k a b c : ℕ) (some : 0 < k) (ha : a < 2 ^ k) (hb : b < 2 ^ k) (hc : 
   overflow =
       overflow-by (leb h a) (leb h b) (leb h value) (side a) (side b) (side value)
       ∙ sym (ap (λ (z : ℤ). flagOf (leb h (mag z))) signed-sum)
+
+-- the carry of two words and a carry in is a bit
+pub sum-carry : (a b c : ℕ) → a < 65536 → b < 65536 → c < 2 → adder a b c .carry < 2
+unfolding adder
+sum-carry a b c ha hb hc = omega arith
 
 pub carry-in-width : CarryInWidth
 carry-in-width = carry

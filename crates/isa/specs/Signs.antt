@@ -9,8 +9,8 @@ use lib.Signed.{mag}
 use Rattle.isa.specs.Machine.{wordRange, flagOf}
 use Rattle.isa.specs.Flags.{signedOf, adder}
 
--- Ruling D3: "A sign is bit 15": Neg where it is 1, Pos where it is 0, so of zero too. In a width of k bits it is bit
--- k - 1.
+-- Ruling D3: "A sign is bit 15": Neg where it is 1, Pos where it is 0, so of zero too. Of a number below 2 ^ k it is
+-- bit k - 1.
 pub data Sign : Type 0 where
   Pos : Sign
   Neg : Sign
@@ -56,7 +56,8 @@ CarryInWidth =
     (k a b c : ℕ) → 0 < k → a < 2 ^ k → b < 2 ^ k → c < 2
     → carryBySigns (signOf k a) (signOf k b) (signOf k ((a + b + c) % 2 ^ k)) ≡ (a + b + c) / 2 ^ k
 
--- .. and whether the sum of the two signed numbers and the carry in is beyond k bits signed
+-- .. and whether the sum of the two signed numbers and the carry in is beyond k bits signed, as Flags.tooLarge has it
+-- for 16
 abbrev pub OverflowInWidth : Type 0
 OverflowInWidth =
     (k a b c : ℕ) → 0 < k → a < 2 ^ k → b < 2 ^ k → c < 2

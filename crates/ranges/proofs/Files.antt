@@ -111,11 +111,6 @@ pub sum-value : (a b c : ℕ) → adder a b c .value < 65536
 unfolding adder
 sum-value a b c = omega arith
 
--- its carry is a bit
-pub sum-carry : (a b c : ℕ) → a < 65536 → b < 65536 → c < 2 → adder a b c .carry < 2
-unfolding adder
-sum-carry a b c h k l = omega arith
-
 -- O and Q leave STS eight flags
 pub overflow-flags : (o w : ℕ) → w < 256 → withOverflow o w < 256
 unfolding withOverflow

@@ -49,10 +49,11 @@ use Rattle.isa.specs.declared.instruction.User.the-variants.{StoreByte, Mix3, M
 use Rattle.isa.proofs.Tests.{either, decided}
 use Rattle.ranges.proofs.Places.{nil-words, cons-words}
 use Rattle.isa.proofs.Signed.{bits-below}
+use Rattle.isa.proofs.Signs.{sum-carry}
 use Rattle.isa.proofs.Shifts.{Narrow, shift-narrow}
 use Rattle.ranges.proofs.Files.{FileFits, reg-word, sts-flags, bit-two, operand-word, with-word, with-sts}
 use Rattle.ranges.proofs.Files.{flag-fits, next-fits, skip-fits, result-fits, put-bit-fits, sum-value}
-use Rattle.ranges.proofs.Files.{sum-carry, overflow-flags, takes-fits}
+use Rattle.ranges.proofs.Files.{overflow-flags, takes-fits}
 
 -- what an instruction completes with
 pub record Completes (d : Completed) : Type 0 where

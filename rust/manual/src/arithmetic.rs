@@ -98,6 +98,29 @@ mod tests {
         named(cell).find(|item| item.0 == name).map_or(0, |it| it.1)
     }
 
+    /// Operands and carry in of an addition, by document 002 and ruling D3.
+    fn operands(code: u16, before: &str) -> [u16; 3] {
+        const REGISTERS: [&str; 8] = ["", "D", "P", "B", "L", "A", "T", "X"];
+        let register = |number: u16| get(before, REGISTERS[usize::from(number & 7)]);
+        let has = |bit: u16| code & bit != 0;
+        match code >> 11 {
+            0o14 => [get(before, "A"), get(before, "word"), 0],
+            0o15 => [get(before, "A"), !get(before, "word"), 1],
+            0o36 => {
+                let name = ["B", "A", "T", "X"][usize::from(code >> 8 & 3)];
+                [get(before, name), code as u8 as i8 as u16, 0]
+            }
+            _ => {
+                let (source, destination) = (register(code >> 3), register(code));
+                [
+                    if has(0o100) { 0 } else { destination },
+                    if has(0o200) { !source } else { source },
+                    u16::from(has(0o400)) + u16::from(has(0o1000)) * get(before, "C"),
+                ]
+            }
+        }
+    }
+
     #[test]
     fn table_has_each_row_once() {
         let rows: Vec<String> = table().iter().map(|row| row[..3].concat()).collect();
@@ -109,10 +132,9 @@ mod tests {
     #[test]
     fn every_line_is_right() {
         for line in worked() {
-            let [_, _, before, adds, signs, after] = line;
-            let [a, b, c] = adds.split(" + ").map(octal).collect::<Vec<_>>()[..] else {
-                panic!("{adds} is not a + b + c");
-            };
+            let [_, code, before, adds, signs, after] = line;
+            let [a, b, c] = operands(octal(code), before);
+            assert_eq!(adds, format!("{a:06o} + {b:06o} + {c}"), "{line:?}");
             let whole = u32::from(a) + u32::from(b) + u32::from(c);
             let signed = i32::from(a as i16) + i32::from(b as i16) + i32::from(c);
             let value = whole as u16;

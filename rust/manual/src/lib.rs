@@ -2,8 +2,8 @@
 //! description; and those of docs/ARITHMETIC.md. The tests `manual` of `second` and `nd110` hold the second engine and
 //! the proved engine to them.
 //!
-//! What must come is typed from the manuals, or stands on the page; no engine computes it. An example is a whole machine before and after, and
-//! every word that it does not name must stay.
+//! What must come is typed from the manuals or stands on that page; no engine computes it. An example is a whole
+//! machine before and after, and every word that it does not name must stay.
 
 mod arithmetic;
 mod document000;
@@ -31,7 +31,7 @@ pub enum Place {
 
 pub type Words = &'static [(Place, u16)];
 
-/// Where an example stands in a manual.
+/// Where an example stands.
 #[derive(Clone, Copy, Debug)]
 pub enum Source {
     /// Of document 002.
@@ -55,7 +55,7 @@ impl fmt::Display for Source {
 #[derive(Clone, Copy, Debug)]
 pub struct Example {
     pub source: Source,
-    /// The instructions as the manual writes them.
+    /// The instructions as they are written there.
     pub text: &'static str,
     pub word: u16,
     /// The words that follow it.

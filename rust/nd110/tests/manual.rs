@@ -1,5 +1,5 @@
-//! The manuals' worked examples through the archive, by the tables of crate `manual`: the proved engine is held to the
-//! manuals themselves, with no other engine between.
+//! Worked examples of the manuals and of docs/ARITHMETIC.md through the archive, by crate `manual`: the proved engine is
+//! held to what is written there, with no other engine between.
 
 use manual::Machine;
 use nd110::{State, step};

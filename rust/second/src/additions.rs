@@ -1,5 +1,5 @@
 //! Additions to run engines through: every pair of some three hundred words,
-//! by every way in which an instruction adds, with and without a carry in.
+//! by the ways of adding in `WAYS`, with and without a carry in.
 //!
 //! ```
 //! use second::additions::{all, start, values};

@@ -10,7 +10,7 @@ pub(crate) struct Sum {
 
 /// The 16-bit adder with its carry and signed overflow. Whole numbers on
 /// purpose, in every part: the proved engine decides both by the signs of the
-/// operands and of the result, and only a reading of another kind can hold it.
+/// operands and of the result, and the two shall be independent.
 pub(crate) fn add(a: u16, b: u16, carry: bool) -> Sum {
     let unsigned = u32::from(a) + u32::from(b) + u32::from(carry);
     let signed = i32::from(a as i16) + i32::from(b as i16) + i32::from(carry);

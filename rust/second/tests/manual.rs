@@ -1,4 +1,4 @@
-//! The manuals' worked examples, by the tables of crate `manual`.
+//! Worked examples of the manuals and of docs/ARITHMETIC.md, by crate `manual`.
 
 use manual::Machine;
 use second::{Interrupt, State, disassemble, step};

@@ -1,5 +1,5 @@
-//! Additions by both engines: every pair of the second engine's values, with and without a carry in, by every
-//! instruction that adds; whole states compared after the step.
+//! Additions by both engines: every pair of the second engine's values, with and without a carry in, by ADD, SUB, AAx
+//! and RADD with its forms; whole states compared after the step.
 
 use compare::engines::Both;
 use second::additions::{all, start, values};

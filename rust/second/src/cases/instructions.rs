@@ -87,7 +87,7 @@ fn radd(word: u16, sts: u16, x: u16, t: u16) -> Case {
     case.reg(Reg::X, x).reg(Reg::T, t).at_p(word | 0o67)
 }
 
-/// Every row of signs by every way of adding. With a carry in the second
+/// Every row of signs by ADD, SUB, RADD with its forms, AAA and AAX. With a carry in the second
 /// operand is one less: the row stays, and at the edge the carry may decide it.
 fn additions(cases: &mut Vec<Case>) {
     for (a, b) in AT_THE_EDGE.into_iter().chain(INSIDE) {

@@ -7,18 +7,13 @@ use native.Mathlib.Omega.{arith}
 use borrow.Author.Needs.{needs}
 use Rattle.isa.specs.Flags.{negative, adder}
 use Rattle.isa.specs.Signs.{signIf, carryBySigns, overflowBySigns}
-use Rattle.isa.proofs.Signs.{carry-by-signs, overflow-by-signs}
+use Rattle.isa.proofs.Signs.{carry-by-signs, overflow-by-signs, sum-carry}
 use Rattle.arithmetic.proofs.adder.add.Statement.{statement}
 use Rattle.arithmetic.proofs.adder.add.Tie as tie
 
 -- the carry of the first sum is dropped either way
 two-sums : (x y : ℕ) → (x % 65536 + y) % 65536 ≡ (x + y) % 65536
 two-sums x y = omega arith
-
--- of two words and a carry in, the carry out is a bit
-carry-bit : (a b c : ℕ) → a < 65536 → b < 65536 → c < 2 → adder a b c .carry < 2
-unfolding adder
-carry-bit a b c ha hb hc = omega arith
 
 -- the carry m and the overflow n of the cases, by signs x, y and z that were found of the operands and of the result v
 by-cases : (a b c v m n : ℕ) (x y z : Bool) → a < 65536 → b < 65536 → c < 2 → v ≡ adder a b c .value
@@ -28,9 +23,9 @@ by-cases : (a b c v m n : ℕ) (x y z : Bool) → a < 65536 → b < 65536 → c 
 by-cases a b c v m n x y z ha hb hc e p q o carry overflow =
     let carried : m ≡ adder a b c .carry = carry ∙ simp (o, e, p, q) (carry-by-signs a b c ha hb hc) in
     let overflows : n ≡ adder a b c .overflow = overflow ∙ simp (o, e, p, q) (overflow-by-signs a b c ha hb hc) in
-    (carried, (overflows, subst⁻¹ (λ (k : ℕ). k < 2) carried (carry-bit a b c ha hb hc)))
+    (carried, (overflows, subst⁻¹ (λ (k : ℕ). k < 2) carried (sum-carry a b c ha hb hc)))
 
--- where the result is there, and the arguments
+-- the place after the second sum, and the start, which has the arguments
 abbrev summed : tie.After-by-signs → tie.After-wrapping-add-u162
 summed c = c .before .before .before .before
 
