@@ -4,7 +4,7 @@ use Prim.Native.Nat.{ℕ, suc, _+_, _-_, _*_, _/_, _%_, _^_, _<_, _≤_}
 use native.Mathlib.Decide.{decLt}
 use native.Mathlib.Nat.{mod-lt}
 use native.Mathlib.Omega.{arith}
-use mathlib.Core.Path.{_≡_, refl, sym, ap, _∙_}
+use mathlib.Core.Path.{_≡_, refl, sym, ap, _∙_, subst}
 use mathlib.Core.Bool.{Bool, true, false, cond, not}
 use lib.Arith.{digits-div, digits-mod}
 use lib.Dec.{ltb, leb, lit<}
@@ -133,8 +133,7 @@ module _ (k a b c : ℕ) (some : 0 < k) (ha : a < 2 ^ k) (hb : b < 2 ^ k) (hc : 
 
   -- two that are not negative: their sum is within the width, so it is the result
   overflow-pos : (r : Bool) → Half h a false → Half h b false → Half h value r → Half h (size false false) r
-  overflow-pos false p q o = omega (arith, whole, within (omega (arith, whole)) .0)
-  overflow-pos true p q o = omega (arith, whole, within (omega (arith, whole)) .0)
+  overflow-pos r p q o = subst (λ (n : ℕ). Half h n r) (within (omega (arith, whole)) .0) o
 
   -- two negative ones: their sum is beyond the width, and what is left of it has the other sign if it is too far
   -- below zero

@@ -29,8 +29,9 @@ enum Second {
     /// The memory word after the instruction.
     Memory,
     MemoryComplement,
-    Register(Reg),
-    RegisterComplement(Reg),
+    /// The source register.
+    Source(Reg),
+    SourceComplement(Reg),
     /// Bits 7-0 of the instruction, sign-extended.
     Argument,
 }
@@ -51,20 +52,27 @@ pub struct Way {
     word: u16,
     /// Holds the first operand, and gets the sum.
     register: Reg,
+    /// The first operand is 0 instead, whatever the register holds.
+    cld: bool,
     second: Second,
     carry_in: CarryIn,
 }
 
-/// ADD, SUB, RADD with its sub-instructions, and the argument instructions.
-pub static WAYS: [Way; 12] = [
+/// ADD, SUB, RADD with its sub-instructions (COPY is RADD CLD), and the argument
+/// instructions.
+pub static WAYS: [Way; 16] = [
     way(0o060001, A, Second::Memory, CarryIn::Zero), // ADD *1
     way(0o064001, A, Second::MemoryComplement, CarryIn::One), // SUB *1
-    way(0o146057, X, Second::Register(A), CarryIn::Zero), // RADD SA DX
-    way(0o146457, X, Second::Register(A), CarryIn::One), // RADD AD1 SA DX
-    way(0o147057, X, Second::Register(A), CarryIn::C(false)), // RADD ADC SA DX
-    way(0o147057, X, Second::Register(A), CarryIn::C(true)), // the same, C set
-    way(0o146257, X, Second::RegisterComplement(A), CarryIn::Zero), // RADD CM1 SA DX
-    way(0o146663, B, Second::RegisterComplement(T), CarryIn::One), // RSUB ST DB
+    way(0o146057, X, Second::Source(A), CarryIn::Zero), // RADD SA DX
+    way(0o146457, X, Second::Source(A), CarryIn::One), // RADD AD1 SA DX
+    way(0o147057, X, Second::Source(A), CarryIn::C(false)), // RADD ADC SA DX
+    way(0o147057, X, Second::Source(A), CarryIn::C(true)), // the same, C set
+    way(0o146257, X, Second::SourceComplement(A), CarryIn::Zero), // RADD CM1 SA DX
+    way(0o147257, X, Second::SourceComplement(A), CarryIn::C(false)), // RADD CM1 ADC SA DX
+    way(0o147257, X, Second::SourceComplement(A), CarryIn::C(true)), // the same, C set
+    way(0o146663, B, Second::SourceComplement(T), CarryIn::One), // RSUB ST DB
+    way(0o146157, X, Second::Source(A), CarryIn::Zero).cld(), // COPY SA DX
+    way(0o147157, X, Second::Source(A), CarryIn::C(true)).cld(), // COPY ADC SA DX, C set
     way(0o172400, A, Second::Argument, CarryIn::Zero), // AAA
     way(0o172000, B, Second::Argument, CarryIn::Zero), // AAB
     way(0o173000, T, Second::Argument, CarryIn::Zero), // AAT
@@ -75,17 +83,24 @@ const fn way(word: u16, register: Reg, second: Second, carry_in: CarryIn) -> Way
     Way {
         word,
         register,
+        cld: false,
         second,
         carry_in,
     }
 }
 
 impl Way {
+    /// The way with CLD.
+    const fn cld(mut self) -> Way {
+        self.cld = true;
+        self
+    }
+
     /// Every pair of `values` that this way can add.
     pub fn additions(&'static self, values: &[u16]) -> impl Iterator<Item = Addition> {
         values.iter().flat_map(move |&first| {
-            let seconds = values.iter().filter(|&&second| self.reaches(second));
-            seconds.map(move |&second| Addition {
+            let reached = move |&&second: &&u16| self.reaches(first, second);
+            values.iter().filter(reached).map(move |&second| Addition {
                 way: self,
                 first,
                 second,
@@ -93,9 +108,11 @@ impl Way {
         })
     }
 
-    /// Whether a word can be the second operand: an argument is -128 to 127.
-    fn reaches(&self, second: u16) -> bool {
-        !matches!(self.second, Second::Argument) || i8::try_from(second as i16).is_ok()
+    /// Whether a pair can be the operands: with CLD the first is 0, and an
+    /// argument is -128 to 127.
+    fn reaches(&self, first: u16, second: u16) -> bool {
+        let argument = matches!(self.second, Second::Argument);
+        (!self.cld || first == 0) && (!argument || i8::try_from(second as i16).is_ok())
     }
 }
 
@@ -126,6 +143,16 @@ impl Addition {
         }
     }
 
+    /// What the register holds: the first operand, or with CLD a word of the
+    /// other sign, so that taking it would show.
+    fn held(&self) -> u16 {
+        if self.way.cld {
+            !self.first
+        } else {
+            self.first
+        }
+    }
+
     /// All flags or none, by the parity of the pair; C as the way needs it.
     fn flags(&self) -> u16 {
         let even = (self.first ^ self.second).count_ones().is_multiple_of(2);
@@ -144,14 +171,14 @@ impl Addition {
         state.files[0] = file(0);
         state.set_reg(Reg::Sts, self.flags());
         state.set_reg(Reg::P, HERE as u16);
-        state.set_reg(self.way.register, self.first);
+        state.set_reg(self.way.register, self.held());
         memory[HERE] = self.word();
         memory[HERE + 1] = 0;
         match self.way.second {
             Second::Memory => memory[HERE + 1] = self.second,
             Second::MemoryComplement => memory[HERE + 1] = !self.second,
-            Second::Register(source) => state.set_reg(source, self.second),
-            Second::RegisterComplement(source) => state.set_reg(source, !self.second),
+            Second::Source(source) => state.set_reg(source, self.second),
+            Second::SourceComplement(source) => state.set_reg(source, !self.second),
             Second::Argument => {}
         }
     }

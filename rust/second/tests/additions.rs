@@ -4,11 +4,11 @@
 use second::additions::{WAYS, all, start, values};
 use second::vectors::Start;
 use second::{PAGE, Reg, disassemble, flag, step};
-use std::collections::HashSet;
+use std::collections::{BTreeMap, BTreeSet, HashSet};
 
-/// Each way with 177770 for both operands: its instruction as document 002
+/// Each way with 177770 for its second operand: its instruction as document 002
 /// writes it, the register that changes, the carry in.
-const WRITTEN: [(&str, Reg, i64); 12] = [
+const WRITTEN: [(&str, Reg, i64); 16] = [
     ("ADD *1", Reg::A, 0),
     ("SUB *1", Reg::A, 1),
     ("RADD SA DX", Reg::X, 0),
@@ -16,19 +16,29 @@ const WRITTEN: [(&str, Reg, i64); 12] = [
     ("RADD ADC SA DX", Reg::X, 0),
     ("RADD ADC SA DX", Reg::X, 1),
     ("RADD CM1 SA DX", Reg::X, 0),
+    ("RADD CM1 ADC SA DX", Reg::X, 0),
+    ("RADD CM1 ADC SA DX", Reg::X, 1),
     ("RADD CM1 AD1 ST DB", Reg::B, 1), // RSUB
+    ("COPY SA DX", Reg::X, 0),
+    ("COPY ADC SA DX", Reg::X, 1),
     ("AAA -10", Reg::A, 0),
     ("AAB -10", Reg::B, 0),
     ("AAT -10", Reg::T, 0),
     ("AAX -10", Reg::X, 0),
 ];
 
+/// Whether the first operand is 0: COPY is RADD CLD.
+fn copies(text: &str) -> bool {
+    text.starts_with("COPY")
+}
+
 #[test]
 fn each_way_is_its_instruction() {
     let mut used = start();
     for (way, (text, _, carry)) in WAYS.iter().zip(WRITTEN) {
-        let addition = way.additions(&[0o177770]).next().expect("an argument");
-        let told = format!("{text}: 177770 + 177770 + {carry}");
+        let addition = way.additions(&[0, 0o177770]).last().expect("an argument");
+        let first = if copies(text) { 0 } else { 0o177770 };
+        let told = format!("{text}: {first:06o} + 177770 + {carry}");
         assert_eq!(addition.to_string(), told);
 
         let mut start = start();
@@ -87,27 +97,52 @@ fn sums_carries_and_overflows_are_those_of_whole_numbers() {
     }
 }
 
+/// Signs of the first operand, the second operand and the sum.
+const ROWS: [&str; 8] = ["+++", "++-", "+-+", "+--", "-++", "-+-", "--+", "---"];
+
+/// The rows that a way meets, and of these the ones that a carry in decides:
+/// where the sum without it is 077777, 177777 or 277777. The sum of 0 and a
+/// word has the word's sign unless the carry in decides.
+fn expected(copies: bool, carry: i64) -> (&'static [&'static str], &'static [&'static str]) {
+    match (copies, carry) {
+        (false, 0) => (&ROWS, &[]),
+        (false, _) => (&ROWS, &["++-", "+-+", "-++", "---"]),
+        (true, 0) => (&["+++", "+--"], &[]),
+        (true, _) => (&["+++", "++-", "+-+", "+--"], &["++-", "+-+"]),
+    }
+}
+
 #[test]
-fn every_way_meets_every_row_of_signs() {
+fn every_way_meets_its_rows_of_signs() {
     let values = values();
     let mut start = start();
-    for (way, (text, _, carry)) in WAYS.iter().zip(WRITTEN) {
-        let (mut rows, mut decided) = (HashSet::new(), HashSet::new());
+    let sign = |sum| if negative(sum) { '-' } else { '+' };
+    for (way, (text, register, carry)) in WAYS.iter().zip(WRITTEN) {
+        let mut rows = BTreeMap::<String, HashSet<u16>>::new();
+        let mut decided = BTreeSet::new();
         for addition in way.additions(&values) {
             addition.put(&mut start);
             let (a, b) = (i64::from(addition.first), i64::from(addition.second));
-            let operands = (negative(a), negative(b));
-            let result = negative(a + b + carry);
-            // Flags before: all, or none.
-            let flags = start.state.reg(Reg::Sts) & !flag::C;
-            rows.insert((operands, result, flags));
-            if result != negative(a + b) {
-                decided.insert(operands);
+            // With the register's sign for that of the 0, COPY would be in another row.
+            let held = i64::from(start.state.reg(register));
+            assert_eq!(sign(held) != sign(a), copies(text), "{addition}");
+
+            let row: String = [a, b, a + b + carry].map(sign).iter().collect();
+            if sign(a + b) != sign(a + b + carry) {
+                decided.insert(row.clone());
             }
+            let flags = start.state.reg(Reg::Sts) & !flag::C;
+            rows.entry(row).or_default().insert(flags);
         }
-        assert_eq!(rows.len(), 8 * 2, "{text}");
-        // Whatever the operands' signs, somewhere the carry in decides.
-        assert_eq!(decided.len() as i64, 4 * carry, "{text}");
+        let (all, by_carry) = expected(copies(text), carry);
+        assert!(rows.keys().eq(all), "{text}: {rows:?}");
+        assert!(decided.iter().eq(by_carry), "{text}: {decided:?}");
+        for (row, flags) in rows {
+            // Flags before: all, and none. But only 0 and 077777, or 0 and 177777,
+            // make a row of COPY that the carry in decides.
+            let one_pair = copies(text) && decided.contains(&row);
+            assert_eq!(flags.len(), if one_pair { 1 } else { 2 }, "{text}: {row}");
+        }
     }
 }
 
@@ -115,7 +150,8 @@ fn every_way_meets_every_row_of_signs() {
 fn all_are_every_pair_by_every_way() {
     let values = [0o177577, 0o177600, 0, 0o177, 0o200];
     let texts: HashSet<String> = all(&values).map(|addition| addition.to_string()).collect();
-    // Three of the five are arguments; ADC with C 0 and 1 tell themselves apart.
-    assert_eq!(texts.len(), 8 * 25 + 4 * 15);
+    // Three of the five are arguments, one is what CLD gives; ADC with C 0 and 1
+    // tell themselves apart.
+    assert_eq!(texts.len(), 10 * 25 + 4 * 15 + 2 * 5);
     assert_eq!(all(&values).count(), texts.len());
 }
