@@ -3,6 +3,7 @@ pub mod Tests
 pub mod Signed
 pub mod Signs
 pub mod Shifts
+pub mod Rotations
 pub mod Window
 pub mod Marks
 pub mod Permits

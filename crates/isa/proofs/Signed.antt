@@ -10,7 +10,7 @@ use lib.Pow.{pow-pos}
 use lib.IntN.{ℤ, pos, negsuc}
 use lib.Signed.{mag}
 use borrow.Author.Tests.{ltb-true, ltb-false}
-use Rattle.isa.specs.Flags.{signedOf, bitsOf}
+use Rattle.isa.specs.Flags.{signedOf, residue, bitsOf}
 
 -- a width above 0 is twice its half
 pub twice-half : (k : ℕ) → 0 < k → 2 ^ k ≡ 2 ^ (k - 1) * 2
@@ -19,10 +19,13 @@ twice-half k h = ap (λ (j : ℕ). 2 ^ j) q ∙ pow-suc 2 (k - 1)
     q : k ≡ suc (k - 1)
     q = omega arith
 
--- the low k bits are a number of k bits
+-- a residue is below its modulus, so the low k bits are a number of k bits
+pub residue-below : (m : ℕ) → 0 < m → (z : ℤ) → residue m z < m
+residue-below m h (pos n) = mod-lt n h
+residue-below m h (negsuc n) = omega (arith, mod-lt n h)
+
 pub bits-below : (k : ℕ) (z : ℤ) → bitsOf k z < 2 ^ k
-bits-below k (pos n) = mod-lt n (pow-pos k)
-bits-below k (negsuc n) = omega (arith, mod-lt n (pow-pos k))
+bits-below k z = residue-below (2 ^ k) (pow-pos k) z
 
 module _ (k n : ℕ) (h : 0 < k) (l : n < 2 ^ k) where
   -- a signed field of k bits lies from -2 ^ (k - 1) to 2 ^ (k - 1) - 1

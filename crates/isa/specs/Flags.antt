@@ -18,10 +18,14 @@ signedOf k n = cond (ltb n (2 ^ (k - 1))) (pos n) (negsuc (2 ^ k - suc n))
 abbrev pub negative : ℕ → Bool
 negative w = leb 32768 w
 
+-- A whole number modulo m: the residue from 0 to m - 1. (`negsuc n` is -(n + 1).)
+abbrev pub residue : ℕ → ℤ → ℕ
+residue m (pos n) = n % m
+residue m (negsuc n) = m - suc (n % m)
+
 -- The low k bits of a whole number in two's complement.
 abbrev pub bitsOf : ℕ → ℤ → ℕ
-bitsOf k (pos n) = n % 2 ^ k
-bitsOf k (negsuc n) = 2 ^ k - suc (n % 2 ^ k)
+bitsOf k z = residue (2 ^ k) z
 
 -- A whole number is beyond 16 bits signed. (`mag z` is n both for n and for -(n + 1).)
 abbrev pub tooLarge : ℤ → Bool

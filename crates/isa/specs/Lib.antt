@@ -5,6 +5,7 @@ pub mod Address
 pub mod Flags
 pub mod Signs
 pub mod Instructions
+pub mod Rotations
 pub mod System
 pub mod Pages
 pub mod Step
