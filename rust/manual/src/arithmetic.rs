@@ -1,8 +1,7 @@
-//! The worked additions of docs/ARITHMETIC.md, read from the page itself: what it shows is what is executed.
+//! The worked additions of docs/ARITHMETIC.md.
 
-use crate::Place::{self, Memory};
-use crate::words::*;
-use crate::{Example, HERE, Source, Words};
+use crate::page::{lines, octal, words};
+use crate::{Example, Source};
 use std::sync::LazyLock;
 
 const PAGE: &str = include_str!("../../../docs/ARITHMETIC.md");
@@ -13,7 +12,7 @@ pub static EXAMPLES: LazyLock<Vec<Example>> = LazyLock::new(|| worked().map(exam
 type Line = [&'static str; 6];
 
 fn worked() -> impl Iterator<Item = Line> {
-    lines().filter(|[_, code, ..]: &Line| code.starts_with(|c: char| c.is_ascii_digit()))
+    lines(PAGE).filter(|[_, code, ..]: &Line| code.starts_with(|c: char| c.is_ascii_digit()))
 }
 
 fn example([text, code, before, _, _, after]: Line) -> Example {
@@ -26,76 +25,21 @@ fn example([text, code, before, _, _, after]: Line) -> Example {
     )
 }
 
-/// The lines of the page's tables that have so many cells.
-fn lines<const CELLS: usize>() -> impl Iterator<Item = [&'static str; CELLS]> {
-    let tables = PAGE.lines().filter(|line| line.starts_with('|'));
-    tables.filter_map(|line| {
-        let cells: Vec<&str> = line.trim_matches('|').split('|').map(str::trim).collect();
-        cells.try_into().ok()
-    })
-}
-
-fn octal(text: &str) -> u16 {
-    u16::from_str_radix(text, 8).expect("an octal number")
-}
-
-/// A cell such as `A 000005, word 000003, C 1`.
-fn named(cell: &str) -> impl Iterator<Item = (&str, u16)> {
-    cell.split(", ").map(|item| {
-        let (name, value) = item.split_once(' ').expect("a name and a word");
-        (name, octal(value))
-    })
-}
-
-fn flag(name: &str) -> Option<u16> {
-    match name {
-        "C" => Some(C),
-        "O" => Some(O),
-        "Q" => Some(Q),
-        _ => None,
-    }
-}
-
-/// A register, or the word after the instruction.
-fn place(name: &str) -> Place {
-    match name {
-        "D" => D,
-        "B" => B,
-        "A" => A,
-        "T" => T,
-        "X" => X,
-        "word" => Memory(usize::from(HERE) + 1),
-        _ => panic!("{name} is no register, flag or word"),
-    }
-}
-
-/// Flags that are not named are 0.
-fn words(cell: &str) -> Words {
-    let flags = named(cell).filter_map(|(name, value)| Some(flag(name)? * value));
-    let others = named(cell).filter(|(name, _)| flag(name).is_none());
-    let mut words: Vec<_> = others.map(|(name, value)| (place(name), value)).collect();
-    words.push((STS, flags.sum()));
-    words.leak()
-}
-
 #[cfg(test)]
 mod tests {
     use super::*;
+    use crate::page::{get, named};
 
     /// The three signs, C and O.
     type Row = [&'static str; 5];
 
     fn table() -> Vec<Row> {
         let signs = |[first, ..]: &Row| ["+", "-"].contains(first);
-        lines().filter(signs).collect()
+        lines(PAGE).filter(signs).collect()
     }
 
     fn sign(word: u16) -> &'static str {
         if word < 0o100000 { "+" } else { "-" }
-    }
-
-    fn get(cell: &str, name: &str) -> u16 {
-        named(cell).find(|item| item.0 == name).map_or(0, |it| it.1)
     }
 
     /// Operands and carry in of an addition, by document 002 and ruling D3.

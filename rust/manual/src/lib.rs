@@ -1,13 +1,15 @@
 //! The worked examples of the manuals as tables: document 002, the instruction set, and document 000, the functional
-//! description; and those of docs/ARITHMETIC.md. The tests `manual` of `second` and `nd110` hold the second engine and
-//! the proved engine to them.
+//! description; and those of docs/ARITHMETIC.md and docs/ROTATIONS.md. The tests `manual` of `second` and `nd110` hold
+//! the second engine and the proved engine to them.
 //!
-//! What must come is typed from the manuals or stands on that page; no engine computes it. An example is a whole
+//! What must come is typed from the manuals or stands on those pages; no engine computes it. An example is a whole
 //! machine before and after, and every word that it does not name must stay.
 
 mod arithmetic;
 mod document000;
 mod document002;
+mod page;
+mod rotations;
 mod words;
 
 use std::fmt;
@@ -40,6 +42,8 @@ pub enum Source {
     Section(&'static str),
     /// docs/ARITHMETIC.md.
     Arithmetic,
+    /// docs/ROTATIONS.md.
+    Rotations,
 }
 
 impl fmt::Display for Source {
@@ -48,6 +52,7 @@ impl fmt::Display for Source {
             Source::Page(page) => write!(f, "document 002, page {page}"),
             Source::Section(section) => write!(f, "document 000, section {section}"),
             Source::Arithmetic => write!(f, "docs/ARITHMETIC.md"),
+            Source::Rotations => write!(f, "docs/ROTATIONS.md"),
         }
     }
 }
@@ -67,10 +72,13 @@ pub struct Example {
     pub after: Words,
 }
 
-/// Those of both manuals and of the page.
+/// Those of both manuals and of the pages.
 pub fn examples() -> impl Iterator<Item = &'static Example> {
     let manuals = document002::EXAMPLES.iter().chain(document000::EXAMPLES);
-    manuals.chain(arithmetic::EXAMPLES.iter())
+    let pages = arithmetic::EXAMPLES
+        .iter()
+        .chain(rotations::EXAMPLES.iter());
+    manuals.chain(pages)
 }
 
 /// A machine in the words that all engines know.

@@ -1,5 +1,5 @@
-//! Worked examples of the manuals and of docs/ARITHMETIC.md through the archive, by crate `manual`: the proved engine is
-//! held to what is written there, with no other engine between.
+//! Worked examples of the manuals, of docs/ARITHMETIC.md and of docs/ROTATIONS.md through the archive, by crate
+//! `manual`: the proved engine is held to what is written there, with no other engine between.
 
 use manual::Machine;
 use nd110::{State, step};

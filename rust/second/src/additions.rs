@@ -21,7 +21,7 @@ use std::collections::BTreeSet;
 use std::fmt;
 
 /// Where the instruction stands.
-const HERE: usize = 0o100;
+pub(crate) const HERE: usize = 0o100;
 
 /// Where the adder has its second operand from.
 #[derive(Clone, Copy, Debug)]
@@ -192,8 +192,8 @@ impl fmt::Display for Addition {
     }
 }
 
-/// A start to put additions into: one page, level 0, paging and interrupts
-/// off. Registers, memory and tables hold words that tell their index.
+/// A start to put additions or rotations into: one page, level 0, paging and
+/// interrupts off. Registers, memory and tables hold words that tell their index.
 pub fn start() -> Start {
     let mut state = State::new();
     for (level, registers) in state.files.iter_mut().enumerate() {
@@ -207,7 +207,7 @@ pub fn start() -> Start {
 }
 
 /// Registers of a level; its STS is in range.
-fn file(level: u16) -> [u16; 8] {
+pub(crate) fn file(level: u16) -> [u16; 8] {
     let mut registers = [0o010000; 8];
     registers[0] = 0;
     for (index, register) in (8 * level..).zip(&mut registers) {

@@ -16,6 +16,7 @@ mod image;
 mod machine;
 mod paging;
 pub mod random;
+pub mod rotations;
 mod state;
 mod step;
 mod system;

@@ -1,4 +1,4 @@
-//! Worked examples of the manuals and of docs/ARITHMETIC.md, by crate `manual`.
+//! Worked examples of the manuals, of docs/ARITHMETIC.md and of docs/ROTATIONS.md, by crate `manual`.
 
 use manual::Machine;
 use second::{Interrupt, State, disassemble, step};
