@@ -8,6 +8,7 @@ use crate::paging::{Access, Table};
 impl Machine<'_> {
     /// Effective address and the table it goes by. `at` is the instruction's
     /// own address. Makes the access of the indirect word.
+    #[cfg_attr(feature = "inlined", inline(always))]
     pub fn effective(&mut self, mode: Mode, disp: i16, at: u16) -> Result<(u16, Table), Interrupt> {
         let disp = disp as u16;
         let by_p = at.wrapping_add(disp);
@@ -31,6 +32,7 @@ impl Machine<'_> {
         })
     }
 
+    #[cfg_attr(feature = "inlined", inline(always))]
     fn indirect(&mut self, address: u16, table: Table) -> Result<u16, Interrupt> {
         let place = self.access(address, table, Access::Indirect)?;
         Ok(self.read(place))

@@ -15,6 +15,7 @@ pub enum Interrupt {
 }
 
 impl Interrupt {
+    #[cfg_attr(feature = "inlined", inline(always))]
     pub fn number(self) -> u16 {
         self as u16
     }

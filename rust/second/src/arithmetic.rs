@@ -11,6 +11,7 @@ pub(crate) struct Sum {
 /// The 16-bit adder with its carry and signed overflow. Whole numbers on
 /// purpose, in every part: the proved engine decides both by the signs of the
 /// operands and of the result, and the two shall be independent.
+#[cfg_attr(feature = "inlined", inline(always))]
 pub(crate) fn add(a: u16, b: u16, carry: bool) -> Sum {
     let unsigned = u32::from(a) + u32::from(b) + u32::from(carry);
     let signed = i32::from(a as i16) + i32::from(b as i16) + i32::from(carry);
@@ -22,18 +23,21 @@ pub(crate) fn add(a: u16, b: u16, carry: bool) -> Sum {
 }
 
 /// MPY: the low 16 bits, and whether the absolute value exceeds 32,767.
+#[cfg_attr(feature = "inlined", inline(always))]
 pub(crate) fn multiply(a: u16, b: u16) -> (u16, bool) {
     let product = i32::from(a as i16) * i32::from(b as i16);
     (product as u16, product.unsigned_abs() > 32_767)
 }
 
 /// RMPY: the signed product as high and low word.
+#[cfg_attr(feature = "inlined", inline(always))]
 pub(crate) fn multiply_long(a: u16, b: u16) -> (u16, u16) {
     let product = i32::from(a as i16) * i32::from(b as i16);
     ((product >> 16) as u16, product as u16)
 }
 
 /// RDIV: quotient toward zero and remainder, if the quotient fits.
+#[cfg_attr(feature = "inlined", inline(always))]
 pub(crate) fn divide(high: u16, low: u16, divisor: u16) -> Option<(u16, u16)> {
     let dividend = (u32::from(high) << 16 | u32::from(low)) as i32;
     let divisor = i32::from(divisor as i16);
@@ -44,6 +48,7 @@ pub(crate) fn divide(high: u16, low: u16, divisor: u16) -> Option<(u16, u16)> {
 
 /// Shift of `value` (`width` bits, 16 or 32) by `count`, left when positive.
 /// Answers the result and M.
+#[cfg_attr(feature = "inlined", inline(always))]
 pub(crate) fn shift(kind: ShiftKind, value: u32, width: u32, count: i16, m: bool) -> (u32, bool) {
     if count == 0 {
         return (value, m);
@@ -92,6 +97,7 @@ pub(crate) fn shift(kind: ShiftKind, value: u32, width: u32, count: i16, m: bool
 }
 
 /// Rotation of a ring of `width` bits (at most 33) by 0 to `width` places.
+#[cfg_attr(feature = "inlined", inline(always))]
 fn rotate_left(ring: u64, width: u32, places: u32) -> u64 {
     let mask = (1 << width) - 1;
     if places == width {

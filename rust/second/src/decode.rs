@@ -27,6 +27,7 @@ impl Reg {
     ];
 
     /// The register named by the low three bits.
+    #[cfg_attr(feature = "inlined", inline(always))]
     fn low(bits: u16) -> Reg {
         match bits & 7 {
             0 => Reg::Sts,
@@ -59,6 +60,7 @@ pub enum Mode {
 }
 
 impl Mode {
+    #[cfg_attr(feature = "inlined", inline(always))]
     fn of(word: u16) -> Mode {
         match word >> 8 & 7 {
             0 => Mode::P,
@@ -324,12 +326,14 @@ impl Instr {
 }
 
 /// Bits 7-0, sign-extended.
+#[cfg_attr(feature = "inlined", inline(always))]
 fn low_byte(word: u16) -> i16 {
     i16::from(word as u8 as i8)
 }
 
 /// Decodes a word: bits 15-11 sort, then what each class needs.
-#[inline]
+#[cfg_attr(not(feature = "inlined"), inline)]
+#[cfg_attr(feature = "inlined", inline(always))]
 pub fn decode(word: u16) -> Instr {
     let memory = |op| Instr::Memory {
         op,
@@ -379,6 +383,7 @@ pub fn decode(word: u16) -> Instr {
 }
 
 /// 140000 to 143777: skips, and seven codes of bits 10-6.
+#[cfg_attr(feature = "inlined", inline(always))]
 fn skips(word: u16) -> Instr {
     let dst = Reg::low(word);
     let src = Reg::low(word >> 3);
@@ -400,6 +405,7 @@ fn skips(word: u16) -> Instr {
 }
 
 /// 150000 to 153777.
+#[cfg_attr(feature = "inlined", inline(always))]
 fn system(word: u16) -> Instr {
     let level = word >> 3 & 15;
     let reg = Reg::low(word);
@@ -420,6 +426,7 @@ fn system(word: u16) -> Instr {
 }
 
 /// 150400 to 150577: nine codes.
+#[cfg_attr(feature = "inlined", inline(always))]
 fn control(word: u16) -> Instr {
     match word & 0o177 {
         0o01 => Instr::Iof,
@@ -435,6 +442,7 @@ fn control(word: u16) -> Instr {
     }
 }
 
+#[cfg_attr(feature = "inlined", inline(always))]
 fn jump_cond(word: u16) -> JumpCond {
     match word >> 8 & 7 {
         0 => JumpCond::Jap,
@@ -448,6 +456,7 @@ fn jump_cond(word: u16) -> JumpCond {
     }
 }
 
+#[cfg_attr(feature = "inlined", inline(always))]
 fn skip_cond(word: u16) -> SkipCond {
     match word >> 8 & 7 {
         0 => SkipCond::Eql,
@@ -462,6 +471,7 @@ fn skip_cond(word: u16) -> SkipCond {
 }
 
 /// 144000 to 147777: register operations.
+#[cfg_attr(feature = "inlined", inline(always))]
 fn register(word: u16) -> Instr {
     let dst = Reg::low(word);
     let src = Reg::low(word >> 3);
@@ -494,6 +504,7 @@ fn register(word: u16) -> Instr {
 }
 
 /// 150000 to 150377: bits 7-6 the operation, 5-4 zero, 3-0 the number.
+#[cfg_attr(feature = "inlined", inline(always))]
 fn transfer(word: u16) -> Instr {
     let transfer = match word & 0o377 {
         0o001 => Transfer::TraSts,
@@ -521,6 +532,7 @@ fn transfer(word: u16) -> Instr {
 }
 
 /// Bits 10-9 the kind, 8-7 the register, 6 zero, 5-0 the signed count.
+#[cfg_attr(feature = "inlined", inline(always))]
 fn shift(word: u16) -> Instr {
     if word & 0o100 != 0 {
         return Instr::Illegal;
@@ -543,6 +555,7 @@ fn shift(word: u16) -> Instr {
 }
 
 /// Bit 10 set or add, 9-8 the register.
+#[cfg_attr(feature = "inlined", inline(always))]
 fn argument(word: u16) -> Instr {
     let value = low_byte(word);
     let reg = match word >> 8 & 3 {
@@ -558,6 +571,7 @@ fn argument(word: u16) -> Instr {
     }
 }
 
+#[cfg_attr(feature = "inlined", inline(always))]
 fn bit_op(word: u16) -> BitOp {
     match word >> 7 & 15 {
         0 => BitOp::SetZero,

@@ -14,6 +14,7 @@ use crate::state::flag;
 
 impl Machine<'_> {
     /// Executes what was fetched from `at`.
+    #[cfg_attr(feature = "inlined", inline(always))]
     pub fn execute(&mut self, word: u16, at: u16) -> Result<(), Interrupt> {
         let instr = match decode(word) {
             Instr::Exr { src } => decode(self.operand(src)),
@@ -22,6 +23,7 @@ impl Machine<'_> {
         self.perform(instr, at)
     }
 
+    #[cfg_attr(feature = "inlined", inline(always))]
     fn perform(&mut self, instr: Instr, at: u16) -> Result<(), Interrupt> {
         match instr {
             Instr::Memory { op, mode, disp } => return self.memory(op, mode, disp, at),
@@ -68,6 +70,7 @@ impl Machine<'_> {
     }
 
     /// The adder, with C, O and Q.
+    #[cfg_attr(feature = "inlined", inline(always))]
     fn add_flags(&mut self, a: u16, b: u16, carry: bool) -> u16 {
         let sum = add(a, b, carry);
         self.set_flag(flag::C, sum.carry);
@@ -75,6 +78,7 @@ impl Machine<'_> {
         sum.value
     }
 
+    #[cfg_attr(feature = "inlined", inline(always))]
     fn memory(&mut self, op: MemOp, mode: Mode, disp: i16, at: u16) -> Result<(), Interrupt> {
         let (ea, table) = self.effective(mode, disp, at)?;
         match op {
@@ -154,6 +158,7 @@ impl Machine<'_> {
     }
 
     /// Reads words at ea, ea+1, .., each an access of its own.
+    #[cfg_attr(feature = "inlined", inline(always))]
     pub fn read_words<const N: usize>(
         &mut self,
         ea: u16,
@@ -167,6 +172,7 @@ impl Machine<'_> {
     }
 
     /// Writes words at ea, ea+1, .., all tested before the first is stored.
+    #[cfg_attr(feature = "inlined", inline(always))]
     pub fn write_words<const N: usize>(
         &mut self,
         ea: u16,
@@ -183,6 +189,7 @@ impl Machine<'_> {
         Ok(())
     }
 
+    #[cfg_attr(feature = "inlined", inline(always))]
     fn jump(&mut self, cond: JumpCond, disp: i16, at: u16) {
         if matches!(cond, JumpCond::Jpc | JumpCond::Jnc) {
             self.set(Reg::X, self.get(Reg::X).wrapping_add(1));
@@ -203,6 +210,7 @@ impl Machine<'_> {
         }
     }
 
+    #[cfg_attr(feature = "inlined", inline(always))]
     fn skip_if(&mut self, cond: SkipCond, src: Reg, dst: Reg) {
         if dst == Reg::Sts {
             return;
@@ -225,6 +233,7 @@ impl Machine<'_> {
         }
     }
 
+    #[cfg_attr(feature = "inlined", inline(always))]
     fn rmpy(&mut self, src: Reg, dst: Reg) {
         if dst == Reg::Sts {
             return;
@@ -234,6 +243,7 @@ impl Machine<'_> {
         self.set(Reg::D, low);
     }
 
+    #[cfg_attr(feature = "inlined", inline(always))]
     fn rdiv(&mut self, src: Reg) -> Result<(), Interrupt> {
         match divide(self.get(Reg::A), self.get(Reg::D), self.operand(src)) {
             Some((quotient, remainder)) => {
@@ -249,10 +259,12 @@ impl Machine<'_> {
     }
 
     /// Word of the byte that T and X name.
+    #[cfg_attr(feature = "inlined", inline(always))]
     fn byte_address(&self) -> u16 {
         self.get(Reg::T).wrapping_add(self.get(Reg::X) >> 1)
     }
 
+    #[cfg_attr(feature = "inlined", inline(always))]
     fn lbyt(&mut self) -> Result<(), Interrupt> {
         let word = self.load(self.byte_address(), Table::Alternate)?;
         let [upper, lower] = word.to_be_bytes();
@@ -265,6 +277,7 @@ impl Machine<'_> {
         Ok(())
     }
 
+    #[cfg_attr(feature = "inlined", inline(always))]
     fn sbyt(&mut self) -> Result<(), Interrupt> {
         let address = self.byte_address();
         let word = self.load(address, Table::Alternate)?;
@@ -277,6 +290,7 @@ impl Machine<'_> {
         self.write_words(address, Table::Alternate, [word])
     }
 
+    #[cfg_attr(feature = "inlined", inline(always))]
     fn logic(&mut self, op: Logic, cm1: bool, cld: bool, src: Reg, dst: Reg) {
         if dst == Reg::Sts {
             return;
@@ -299,6 +313,7 @@ impl Machine<'_> {
         }
     }
 
+    #[cfg_attr(feature = "inlined", inline(always))]
     fn radd(&mut self, one: AddOne, cm1: bool, cld: bool, src: Reg, dst: Reg) {
         let carry = match one {
             AddOne::Nothing => false,
@@ -317,6 +332,7 @@ impl Machine<'_> {
         self.set(dst, sum);
     }
 
+    #[cfg_attr(feature = "inlined", inline(always))]
     fn shift(&mut self, reg: ShiftReg, kind: ShiftKind, count: i16) {
         if count == 0 {
             return;
@@ -340,6 +356,7 @@ impl Machine<'_> {
         self.set_flag(flag::M, m);
     }
 
+    #[cfg_attr(feature = "inlined", inline(always))]
     fn bit(&mut self, op: BitOp, bit: u16, reg: Reg) {
         let mask = 1 << bit;
         let is = self.get(reg) & mask != 0;
@@ -372,6 +389,7 @@ impl Machine<'_> {
     }
 
     /// Sets one bit of a register; bits 8 to 15 of STS are never written.
+    #[cfg_attr(feature = "inlined", inline(always))]
     fn set_bit(&mut self, reg: Reg, mask: u16, on: bool) {
         if reg == Reg::Sts && mask > 0o200 {
             return;

@@ -40,15 +40,18 @@ impl<'a> Machine<'a> {
         })
     }
 
+    #[cfg_attr(feature = "inlined", inline(always))]
     pub fn get(&self, reg: Reg) -> u16 {
         self.state.reg(reg)
     }
 
+    #[cfg_attr(feature = "inlined", inline(always))]
     pub fn set(&mut self, reg: Reg, value: u16) {
         self.state.set_reg(reg, value);
     }
 
     /// Register as an operand: number 0 is the value 0, not STS.
+    #[cfg_attr(feature = "inlined", inline(always))]
     pub fn operand(&self, reg: Reg) -> u16 {
         match reg {
             Reg::Sts => 0,
@@ -56,16 +59,19 @@ impl<'a> Machine<'a> {
         }
     }
 
+    #[cfg_attr(feature = "inlined", inline(always))]
     pub fn flag(&self, flag: u16) -> bool {
         self.get(Reg::Sts) & flag != 0
     }
 
+    #[cfg_attr(feature = "inlined", inline(always))]
     pub fn set_flag(&mut self, flag: u16, on: bool) {
         let sts = self.get(Reg::Sts);
         self.set(Reg::Sts, if on { sts | flag } else { sts & !flag });
     }
 
     /// O as given; Q is set with it and stays otherwise.
+    #[cfg_attr(feature = "inlined", inline(always))]
     pub fn set_overflow(&mut self, overflow: bool) {
         self.set_flag(flag::O, overflow);
         if overflow {
@@ -74,6 +80,7 @@ impl<'a> Machine<'a> {
     }
 
     /// P one further: the next instruction is skipped.
+    #[cfg_attr(feature = "inlined", inline(always))]
     pub fn skip(&mut self) {
         let p = self.get(Reg::P);
         self.set(Reg::P, p.wrapping_add(1));

@@ -42,7 +42,8 @@ pub(crate) enum Place {
 
 impl Machine<'_> {
     /// Tests and marks one access. A failed one sets PGS (2 and 3 only).
-    #[inline]
+    #[cfg_attr(not(feature = "inlined"), inline)]
+    #[cfg_attr(feature = "inlined", inline(always))]
     pub fn access(
         &mut self,
         address: u16,
@@ -109,6 +110,7 @@ impl Machine<'_> {
     }
 
     /// A physical address of memory.
+    #[cfg_attr(feature = "inlined", inline(always))]
     pub fn physical(&self, address: usize) -> Result<Place, Interrupt> {
         if address < self.memory.len() {
             Ok(Place::Memory(address))
@@ -117,7 +119,8 @@ impl Machine<'_> {
         }
     }
 
-    #[inline]
+    #[cfg_attr(not(feature = "inlined"), inline)]
+    #[cfg_attr(feature = "inlined", inline(always))]
     pub fn read(&self, place: Place) -> u16 {
         match place {
             Place::Memory(at) => self.memory[at],
@@ -125,7 +128,8 @@ impl Machine<'_> {
         }
     }
 
-    #[inline]
+    #[cfg_attr(not(feature = "inlined"), inline)]
+    #[cfg_attr(feature = "inlined", inline(always))]
     pub fn store(&mut self, place: Place, value: u16) {
         match place {
             Place::Memory(at) => self.memory[at] = value,
@@ -134,7 +138,8 @@ impl Machine<'_> {
     }
 
     /// An operand read: access and value.
-    #[inline]
+    #[cfg_attr(not(feature = "inlined"), inline)]
+    #[cfg_attr(feature = "inlined", inline(always))]
     pub fn load(&mut self, address: u16, table: Table) -> Result<u16, Interrupt> {
         let place = self.access(address, table, Access::Read)?;
         Ok(self.read(place))

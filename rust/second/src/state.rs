@@ -106,15 +106,18 @@ impl State {
     }
 
     /// Register of the running level.
+    #[cfg_attr(feature = "inlined", inline(always))]
     pub fn reg(&self, reg: Reg) -> u16 {
         self.files[usize::from(self.level & 15)][reg as usize]
     }
 
+    #[cfg_attr(feature = "inlined", inline(always))]
     pub fn set_reg(&mut self, reg: Reg, value: u16) {
         self.files[usize::from(self.level & 15)][reg as usize] = value;
     }
 
     /// Highest level both pending and enabled, 0 if none.
+    #[cfg_attr(feature = "inlined", inline(always))]
     pub(crate) fn highest_level(&self) -> u16 {
         match self.pid & self.pie {
             0 => 0,
@@ -123,11 +126,13 @@ impl State {
     }
 
     /// Whether the next step is a change of level.
+    #[cfg_attr(feature = "inlined", inline(always))]
     pub(crate) fn change_due(&self) -> bool {
         self.interrupts_on != 0 && self.highest_level() != self.level
     }
 
     /// Records an internal interrupt.
+    #[cfg_attr(feature = "inlined", inline(always))]
     pub(crate) fn interrupt(&mut self, number: u16) {
         let bit = 1 << number;
         self.iid |= bit;

@@ -8,6 +8,7 @@ use crate::state::State;
 
 impl Machine<'_> {
     /// One step; answers the interrupt it gave, if any.
+    #[cfg_attr(feature = "inlined", inline(always))]
     fn step(&mut self) -> Option<Interrupt> {
         if self.state.stopped != 0 {
             return None;
@@ -27,6 +28,7 @@ impl Machine<'_> {
     }
 
     /// Fetch and execute. A fetch that fails leaves P.
+    #[cfg_attr(feature = "inlined", inline(always))]
     fn instruction(&mut self) -> Result<(), Interrupt> {
         let at = self.get(Reg::P);
         let place = self.access(at, Table::Normal, Access::Fetch)?;

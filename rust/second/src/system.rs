@@ -20,6 +20,7 @@ const BLOCK: [Reg; 8] = [
 
 impl Machine<'_> {
     /// Tests the ring, then executes. The fetch has lowered the ring already.
+    #[cfg_attr(feature = "inlined", inline(always))]
     pub fn privileged(&mut self, instr: Instr) -> Result<(), Interrupt> {
         let level = usize::from(self.state.level & 15);
         if self.state.paging_on != 0 && self.state.pcr[level] & 3 < 2 {
@@ -74,6 +75,7 @@ impl Machine<'_> {
 
     /// Writes a register of a level. P of the running level is left, of STS
     /// bits 7-0 are taken.
+    #[cfg_attr(feature = "inlined", inline(always))]
     fn write_register(&mut self, level: u16, reg: Reg, value: u16) {
         let value = match reg {
             Reg::P if level == self.state.level => return,
@@ -84,10 +86,12 @@ impl Machine<'_> {
     }
 
     /// Address of EXAM and DEPO.
+    #[cfg_attr(feature = "inlined", inline(always))]
     fn long_address(&self) -> usize {
         usize::from(self.get(Reg::A)) << 16 | usize::from(self.get(Reg::D))
     }
 
+    #[cfg_attr(feature = "inlined", inline(always))]
     fn wait(&mut self) {
         if self.state.interrupts_on == 0 {
             self.state.stopped = 1;
@@ -96,6 +100,7 @@ impl Machine<'_> {
         }
     }
 
+    #[cfg_attr(feature = "inlined", inline(always))]
     fn transfer(&mut self, transfer: Transfer) {
         let a = self.get(Reg::A);
         let sts = self.get(Reg::Sts);

@@ -1,6 +1,7 @@
 //! Cases of every operation for the proved engine: `crates/check_*` run them,
 //! and their stored answers are this engine's. `NOTES.md` has the format.
 
+mod fetches;
 mod images;
 mod instructions;
 mod pages;
@@ -27,7 +28,11 @@ pub const PROGRAMS: [(&str, &[Group]); 3] = [
     ),
     (
         "machine",
-        &[("pages", pages::cases), ("system", system::cases)],
+        &[
+            ("pages", pages::cases),
+            ("system", system::cases),
+            ("fetches", fetches::cases),
+        ],
     ),
     (
         "operations",
