@@ -9,14 +9,16 @@ use lib.Dec.{ltb, eqb}
 use borrow.Author.Tests.{ltb-true, ltb-false, eqb-true}
 use Rattle.isa.proofs.Tests.{no-both, either, decided, and-left, and-right}
 use Rattle.isa.specs.Machine.{bit}
-use Rattle.isa.specs.Decode.{decode, rows, byCode, sourceOf, traOf, trrOf, maskedOf, switchOf, srbOf, lrbOf, shiftOf}
+use Rattle.isa.specs.Decode.{decode, rows, byCode, byNumber, sourceOf, traOf, trrOf, maskedOf, switchOf, srbOf}
+use Rattle.isa.specs.Decode.{lrbOf, shiftOf}
 use Rattle.isa.specs.declared.instruction.ControlOp.{ControlOp}
 use Rattle.isa.specs.declared.instruction.Instruction.{Instruction}
 use Rattle.isa.specs.declared.instruction.Instruction.the-variants.{Unprivileged, Privileged, Execute, Monitor, Illegal}
 use Rattle.isa.specs.declared.instruction.Maskable.{Maskable}
 use Rattle.decode.specs.Exr.{exrOf}
 use Rattle.decode.specs.declared.Exr.the-variants.{Source, Other}
-use Rattle.decode.proofs.Laws.{row-from}
+use Rattle.word_class.specs.Classes.{classOf}
+use Rattle.decode.proofs.Laws.{class-arm}
 
 -- an instruction that is not EXR
 abbrev plain : Instruction → Bool
@@ -106,4 +108,5 @@ not-exr w o =
     (plain-other 0o140600 0o140700 0 Illegal (rows w) w h zero-le (λ a b. o (omega arith)))
 
 pub exr : (w : ℕ) → w / 64 ≡ 0o1406 → Source (sourceOf w) ≡ exrOf (decode w)
-exr w h = ap exrOf (row-from 0o1406 0o1407 w refl (omega arith) (omega arith))
+unfolding classOf byCode byNumber
+exr w h = ap exrOf (class-arm w 22 refl (ap classOf h))

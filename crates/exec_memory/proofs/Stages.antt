@@ -313,41 +313,54 @@ module _ (f : File) (m t : List ℕ) (a : ℕ) (r : Rights) (o : MemoryOp) (md :
 
 -- ---- the fetch
 
--- a place in memory to load from was found by way of an entry of a ring that is not above the user's
-abbrev RingBelow : ℕ → ℕ → Translation → Type 0
-RingBelow ring old NoAccess = Unit {0}
-RingBelow ring old (Load p) = ring ≤ old
-RingBelow ring old (Store p) = Unit {0}
-RingBelow ring old (LoadTable i) = Unit {0}
-RingBelow ring old (StoreTable i) = Unit {0}
-RingBelow ring old (Protection g) = Unit {0}
-RingBelow ring old (PageFault g) = Unit {0}
-RingBelow ring old OutOfRange = Unit {0}
+-- by the rights r, the address a names the word p of memory by way of the entry e
+pub record FoundBy (r : Rights) (e : Entry) (a p : ℕ) : Type 0 where
+  pub outside : inWindow r a ≡ false
+  pub permitted : e .fetch ≡ true
+  pub allowed : e .ring ≤ r .ring
+  pub place : p ≡ physical e a
 
-within-below : {ring old : ℕ} → ring ≤ old → (words p : ℕ) → RingBelow ring old (withinMemory words Fetch p)
-unfolding withinMemory
-within-below h words p = either (RingBelow _ _) (ltb p words) h tt
+-- .. if the place is one in memory to load from
+abbrev pub FetchBy : Rights → Entry → ℕ → Translation → Type 0
+FetchBy r e a NoAccess = Unit {0}
+FetchBy r e a (Load p) = FoundBy r e a p
+FetchBy r e a (Store p) = Unit {0}
+FetchBy r e a (LoadTable i) = Unit {0}
+FetchBy r e a (StoreTable i) = Unit {0}
+FetchBy r e a (Protection g) = Unit {0}
+FetchBy r e a (PageFault g) = Unit {0}
+FetchBy r e a OutOfRange = Unit {0}
 
-judged-below : (e : Entry) (slot words old a : ℕ) → RingBelow (e .ring) old (judged e slot words old Fetch a)
-unfolding judged
-judged-below e slot words old a =
-    let P = RingBelow (e .ring) old in
+judged-found : (r : Rights) (e : Entry) (slot words a : ℕ) → inWindow r a ≡ false
+    → FetchBy r e a (judged e slot words (r .ring) Fetch a)
+unfolding judged withinMemory
+judged-found r e slot words a out =
+    let P = FetchBy r e a in
     either P (not (somePermit e)) tt
-    (either P (not (needed e Fetch)) tt
-    (decided P (not (ringAllows e old)) (λ n. tt)
-    (λ n. within-below (leb-true (e .ring) old (not-false (ringAllows e old) n)) words (physical e a))))
+    (decided P (not (needed e Fetch)) (λ n. tt)
+    (λ n. decided P (not (ringAllows e (r .ring))) (λ z. tt)
+    (λ z.
+    either P (ltb (physical e a) words)
+    (record {
+      outside = out;
+      permitted = not-false (needed e Fetch) n;
+      allowed = leb-true (e .ring) (r .ring) (not-false (ringAllows e (r .ring)) z);
+      place = refl;
+    })
+    tt)))
 
 -- so a passed fetch with paging on
-fetch-below : (t : List ℕ) (words : ℕ) (r : Rights) (a : ℕ) → r .paging ≡ true
-    → RingBelow (entryAt t (slotOf (r .normal) a) .ring) (r .ring) (translate t words r (access Fetch false a))
+pub fetch-found : (t : List ℕ) (words : ℕ) (r : Rights) (a : ℕ) → r .paging ≡ true
+    → FetchBy r (entryAt t (slotOf (r .normal) a)) a (translate t words r (access Fetch false a))
 unfolding translate
-fetch-below t words r a h =
+fetch-found t words r a h =
     let i = slotOf (r .normal) a in
-    let P = RingBelow (entryAt t i .ring) (r .ring) in
-    either P (inWindow r a) tt
-    (subst (λ (b : Bool). P (cond b (judged (entryAt t i) i words (r .ring) Fetch a) (withinMemory words Fetch a)))
+    let P = FetchBy r (entryAt t i) a in
+    decided P (inWindow r a) (λ q. tt)
+    (λ q.
+    subst (λ (b : Bool). P (cond b (judged (entryAt t i) i words (r .ring) Fetch a) (withinMemory words Fetch a)))
     (sym h)
-    (judged-below (entryAt t i) i words (r .ring) a))
+    (judged-found r (entryAt t i) i words a q))
 
 -- the PCR after a fetch from memory with paging on
 lowered-ring : (f : File) (p : ℕ) (k : Control) (ring : ℕ) → ring ≤ ringOf p
@@ -370,12 +383,15 @@ ring-is f p k t words a {r} {x} {ring} e q h =
     subst
     (λ (y : Rights). afterFetch (levelCore f p k) ring x ≡ levelCore f (loweredPcr p (ringAfter y ring x)) k)
     e
-    (go (eqb (k .paging) 1) refl x below)
+    (go (eqb (k .paging) 1) refl x refl)
   where
-    below : eqb (k .paging) 1 ≡ true → RingBelow ring (ringOf p) x
-    below z =
-        subst (λ (y : Rights). RingBelow ring (y .ring) x) (sym e)
-        (rw (q, h) (fetch-below t words r a (ap (λ (y : Rights). y .paging) (sym e) ∙ z)))
+    -- a fetch from memory passed by way of an entry of a ring that is not above the user's
+    below : eqb (k .paging) 1 ≡ true → (i : ℕ) → x ≡ Load i → ring ≤ ringOf p
+    below z i n =
+        let entry : Entry = entryAt t (slotOf (r .normal) a) in
+        let on : r .paging ≡ true = ap (λ (y : Rights). y .paging) (sym e) ∙ z in
+        let by : FoundBy r entry a i = subst (FetchBy r entry a) (sym q ∙ n) (fetch-found t words r a on) in
+        rw h (subst (λ (y : Rights). entry .ring ≤ y .ring) (sym e) (by .allowed))
 
     own : (b : Bool) → levelCore f p k ≡ levelCore f (loweredPcr p (cond b (ringOf p) (ringOf p))) k
     own b = either (λ (y : ℕ). levelCore f p k ≡ levelCore f (loweredPcr p y) k) b same same
@@ -384,11 +400,11 @@ ring-is f p k t words a {r} {x} {ring} e q h =
         same = ap (λ (y : ℕ). levelCore f y k) (sym (same-ring p))
 
     go : (b : Bool) → eqb (k .paging) 1 ≡ b → (y : Translation)
-        → (eqb (k .paging) 1 ≡ true → RingBelow ring (ringOf p) y)
+        → x ≡ y
         → afterFetch (levelCore f p k) ring y
         ≡ levelCore f (loweredPcr p (ringAfter (levelRights p (k .paging)) ring y)) k
     go b z NoAccess n = own (eqb (k .paging) 1)
-    go true z (Load i) n = rw z (lowered-ring f p k ring (n z))
+    go true z (Load i) n = rw z (lowered-ring f p k ring (below z i n))
     go false z (Load i) n = rw z (own false)
     go b z (Store i) n = own (eqb (k .paging) 1)
     go b z (LoadTable i) n = own (eqb (k .paging) 1)

@@ -77,14 +77,15 @@ pub fn user_stage(
     ensures { λ e. ⌜ UserStage f at r u (now (mem .entry)) (now (tables .entry)) e (now (mem .exit))
         (now (tables .exit)) ⌝ }
 {
-    if let User::Memory(o, m, d) = u {
-        return memory_stage(f, at, r, mem, tables, o, m, d);
-    }
+    // memory operations last: then the decoder's arms for them lead straight to their stage (docs/BENCHMARK.md)
     if let User::LoadByte = u {
         return read_word(f, mem, tables, byte_location(f, r), Reading::Byte);
     }
     if let User::StoreByte = u {
         return put_byte(f, mem, tables, byte_location(f, r));
+    }
+    if let User::Memory(o, m, d) = u {
+        return memory_stage(f, at, r, mem, tables, o, m, d);
     }
     complete(u, f, at)
 }

@@ -32,6 +32,7 @@ use Rattle.event.specs.declared.Event.{Event}
 use Rattle.event.specs.declared.Event.the-variants.{Failed as Faulted, Privileged as ByRing}
 use Rattle.exec_memory.specs.Stages.{levelCore, ringAfter}
 use Rattle.exec_memory.proofs.Stages.{ring-is, ring-small}
+use Rattle.exec_step.specs.declared.fetch.Page.{Page}
 use Rattle.exec_step.specs.Steps.{InstructionStage, followedBy, followed, ExecutedWord, StepOfLevel}
 
 -- the instruction that is executed is that of the word that was followed
@@ -120,14 +121,14 @@ module _ {f : File} {m t : List ℕ} {r : Rights} {ring : ℕ} {x : Translation}
       whole = λ i. fetched l c m (v-is i) (ring-in i) (x-is i)
 
   -- it passed, and the word w was executed on the ring q, which may execute privileged codes if b is true
-  pub step-passed : (q w : ℕ) {b : Bool} (e : Ending) {z : Event} (m′ t′ : List ℕ) → n ≡ 0 → r .ring < 4
+  pub step-passed : (q w : ℕ) (page : Page) {b : Bool} (e : Ending) {z : Event} (m′ t′ : List ℕ) → n ≡ 0 → r .ring < 4
       → q ≡ ringAfter r ring x
       → b ≡ privilegedBy (onRing r q)
       → z ≡ byPrivilege b (e .event)
       → w ≡ wordAt m v x
       → ExecutedWord (next f) (reg f P) (onRing r q) w m v e m′ t′
-      → StepOfLevel f r m t (record { file = e .file; ring = q; event = z }) m′ t′
-  step-passed q w e m′ t′ s below i g a j d l p k y =
+      → StepOfLevel f r m t (record { file = e .file; ring = q; page = page; event = z }) m′ t′
+  step-passed q w page e m′ t′ s below i g a j d l p k y =
       let small : q < 4 = rw i (ring-small t (reg f P) r x below (h .entry)) in
       let lower : ℕ = loweredPcr p q in
       let rights : levelRights lower (k .paging) ≡ onRing r q =
@@ -143,9 +144,10 @@ module _ {f : File} {m t : List ℕ} {r : Rights} {ring : ℕ} {x : Translation}
       ∙ fetched-step l p k true (passes-zero x (h .found .fault) s) y
 
   -- it failed
-  pub step-failed : (n ≡ 0 → ⊥) → StepOfLevel f r m t (record { file = f; ring = r .ring; event = Faulted x }) m v
+  pub step-failed : (page : Page) → (n ≡ 0 → ⊥)
+      → StepOfLevel f r m t (record { file = f; ring = r .ring; page = page; event = Faulted x }) m v
   unfolding eventPart
-  step-failed s l p k y =
+  step-failed page s l p k y =
       let own : loweredPcr p (r .ring) ≡ p = ap (λ (u : Rights). loweredPcr p (u .ring)) (sym y) ∙ same-ring p in
       ap (λ (u : ℕ). failed (levelCore f u k) x m v) own
       ∙ fetched-step l p k false (fails-other x (h .found .fault) s) y

@@ -3,6 +3,7 @@ ghost use Rattle.isa.specs.Machine.{tableWords};
 ghost use mathlib.Core.Path.{_≡_};
 ghost use Prim.Native.Nat.{_<_};
 ghost use lib.ListN.{length};
+ghost use Rattle.word_class.specs.Classes.{Sorts};
 ghost use Rattle.exec_step.specs.Steps.{InstructionStage, ExecutedWord, followed};
 use decode::Exr;
 use decode::exr_of;
@@ -53,6 +54,7 @@ fn followed(f: File, w: u16) -> u16
 
 // The word w, fetched from the address `at`, by the rights r with PTM 1; the file has P one further.
 pub fn executed_word(
+    classes: &[u8],
     f: File,
     at: u16,
     r: Rights,
@@ -60,12 +62,13 @@ pub fn executed_word(
     tables: &mut [u16],
     w: u16,
 ) -> Ending
+    requires { ⌜ Sorts (now classes) ⌝ }
     requires { ⌜ (r .normal < 4) × (r .alternate < 4) ⌝ }
     requires { ⌜ length (now tables) ≡ tableWords ⌝ }
     ensures { λ e. ⌜ ExecutedWord f at r w (now (mem .entry)) (now (tables .entry)) e (now (mem .exit))
         (now (tables .exit)) ⌝ }
 {
     let s = by_flags(r, f.get(Register::Sts));
-    let i = decode::decode(followed(f, w));
+    let i = decode::decode(classes, followed(f, w));
     instruction_stage(f, at, s, mem, tables, i)
 }

@@ -3,60 +3,82 @@
 ghost use Rattle.isa.specs.Machine.{tableWords};
 ghost use mathlib.Core.Path.{_≡_};
 ghost use Prim.Native.Nat.{_<_};
+ghost use mathlib.Core.Bool.{false};
 ghost use lib.ListN.{length};
+ghost use Rattle.isa.specs.Machine.{reg};
+ghost use Rattle.isa.specs.Address.{access};
+ghost use Rattle.isa.specs.Pages.{translate};
+ghost use Rattle.isa.specs.declared.access.AccessKind.the-variants.{Fetch};
+ghost use Rattle.isa.specs.declared.machine.Register.the-variants.{P};
+ghost use Rattle.word_class.specs.Classes.{Sorts};
+ghost use Rattle.paging.specs.Levels.{onRing};
+ghost use Rattle.exec_step.specs.Fetches.{Kept, pageLeft};
 ghost use Rattle.exec_step.specs.Steps.{StepOfLevel};
+use crate::fetch::Page;
+use crate::fetch::fetch;
+use crate::fetch::no_page;
 use crate::instruction::executed_word;
 use event::Event;
 use event::by_privilege;
-use exec_memory::fetch::ring_after;
-use isa::access::AccessKind;
 use isa::access::Rights;
 use isa::machine::File;
 use isa::machine::Register;
 use paging::place::fault_of;
-use paging::place::word_at;
 use paging::rights::on_ring;
 use paging::rights::privileged;
-use paging::translation::ring_at;
-use paging::translation::translate;
 
+pub mod fetch;
 mod instruction;
 
-// The level's file and ring after the step, and how it ended.
+// The level's file and ring after the step, the page of its fetch, and how it ended.
 pub struct LevelStep {
     pub file: File,
     pub ring: u32,
+    pub page: Page,
     pub event: Event,
 }
 
-// By the rights r with PTM 1.
-pub fn step_in(f: File, r: Rights, mem: &mut [u16], tables: &mut [u16]) -> LevelStep
+// By the rights r with PTM 1 and the kept page k.
+pub fn step_in(
+    classes: &[u8],
+    f: File,
+    r: Rights,
+    k: Page,
+    mem: &mut [u16],
+    tables: &mut [u16],
+) -> LevelStep
+    requires { ⌜ Sorts (now classes) ⌝ }
     requires { ⌜ (r .normal < 4) × (r .alternate < 4) ⌝ }
     requires { ⌜ r .ring < 4 ⌝ }
     requires { ⌜ length (now tables) ≡ tableWords ⌝ }
+    requires { ⌜ Kept (length (now mem)) r k (now tables) ⌝ }
     ensures { λ s. ⌜ s .ring < 4 ⌝ }
     ensures { λ s. ⌜ StepOfLevel f r (now (mem .entry)) (now (tables .entry)) s (now (mem .exit))
         (now (tables .exit)) ⌝ }
+    ensures { λ s. ⌜ s .page ≡ pageLeft (length (now (mem .entry))) (onRing r (s .ring)) k (reg f P)
+        (translate (now (tables .entry)) (length (now (mem .entry))) r (access Fetch false (reg f P))) ⌝ }
+    ensures { λ s. ⌜ Kept (length (now (mem .exit))) (onRing r (s .ring)) (s .page) (now (tables .exit)) ⌝ }
 {
     let at = f.get(Register::P);
-    let ring = ring_at(tables, r, at);
-    let x = translate(tables, mem.len(), r, AccessKind::Fetch, false, at);
+    let g = fetch(at, r, k, mem, tables);
+    let x = g.place;
     if fault_of(x) == 0 {
-        let w = word_at(mem, tables, x);
-        let q = ring_after(r, ring, x);
-        let s = on_ring(r, q);
-        let e = executed_word(f.next(), at, s, mem, tables, w);
+        let page = g.page;
+        let s = on_ring(r, g.ring);
+        let e = executed_word(classes, f.next(), at, s, mem, tables, g.word);
         let file = e.file;
         let event = e.event;
         return LevelStep {
             file: file,
-            ring: q,
+            ring: g.ring,
+            page: page,
             event: by_privilege(privileged(s), event),
         };
     }
     LevelStep {
         file: f,
         ring: r.ring,
+        page: no_page(),
         event: Event::Failed(x),
     }
 }

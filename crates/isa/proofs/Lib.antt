@@ -5,8 +5,9 @@ pub mod Signs
 pub mod Shifts
 pub mod Rotations
 pub mod Window
-pub mod Marks
 pub mod Permits
+pub mod Tables
+pub mod Marks
 pub mod Runs
 pub mod Examples
 pub mod Packing

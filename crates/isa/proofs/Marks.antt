@@ -2,16 +2,19 @@
 -- Assumes nothing.
 use Prim.Native.Nat.{ℕ, _/_, _%_, _<_}
 use mathlib.Core.Path.{_≡_, refl, sym, ap, subst, _∙_}
+use mathlib.Core.Bool.{true}
 use mathlib.Core.List.{List}
 use native.Mathlib.Omega.{arith}
 use native.Mathlib.Decide.{decLt, ℕ-discrete}
 use lib.ListN.{getD, set, length}
-use lib.Seq.{getD-set-same, getD-set-other, set-out}
+use lib.Seq.{getD-set-same, getD-set-other, set-getD, set-out}
 use lib.Dec.{eqb}
+use borrow.Author.Tests.{eq-eqb, eqb-true}
 use Rattle.isa.specs.Pages.{Entry, entryOf, entryAt, markOf}
 use Rattle.isa.specs.Isolation.{MarksAlone}
 use Rattle.isa.specs.declared.access.AccessKind.{AccessKind}
 use Rattle.isa.specs.declared.access.AccessKind.the-variants.{Fetch, Read, Write, Indirect}
+use Rattle.isa.proofs.Tables.{Lasting}
 
 -- the entries of t are those of t₀ but for their marks
 abbrev pub Marked : List ℕ → List ℕ → Type 0
@@ -64,8 +67,8 @@ mark-low Read e = omega arith
 mark-low Write e = omega arith
 mark-low Indirect e = omega arith
 
-pub mark-keeps : (t t₀ : List ℕ) (i : ℕ) (k : AccessKind) → Marked t t₀ → Marked (set t i (markOf k (getD t i 0))) t₀
-mark-keeps t t₀ i k h j =
+pub mark-keeps : (t₀ : List ℕ) → Lasting (λ (t : List ℕ). Marked t t₀)
+mark-keeps t₀ t i k h j =
     then-entry (entryAt (set t i v) j) (entryAt t j) (entryAt t₀ j) (go (ℕ-discrete j i) (decLt i (length t))) (h j)
   where
     v : ℕ
@@ -86,3 +89,36 @@ mark-keeps t t₀ i k h j =
     go (yes q) (no l) =
         subst (λ (x : List ℕ). MarksAlone (entryAt x j) (entryAt t j)) (sym (set-out t i v (omega arith)))
         (same-entry (entryAt t j))
+
+-- ---- PGU, once set, stays
+
+mark-sets : (k : AccessKind) (e : ℕ) → entryOf (markOf k e) .pgu ≡ true
+mark-sets Fetch e = eq-eqb (markOf Fetch e / 2048 % 2) 1 (omega arith)
+mark-sets Read e = eq-eqb (markOf Read e / 2048 % 2) 1 (omega arith)
+mark-sets Write e = eq-eqb (markOf Write e / 2048 % 2) 1 (omega arith)
+mark-sets Indirect e = eq-eqb (markOf Indirect e / 2048 % 2) 1 (omega arith)
+
+-- the entry at the slot of a mark
+pub set-by-mark : (t : List ℕ) (i : ℕ) (k : AccessKind) → i < length t
+    → entryAt (set t i (markOf k (getD t i 0))) i .pgu ≡ true
+set-by-mark t i k l =
+    ap (λ (x : ℕ). entryOf x .pgu) (getD-set-same t i (markOf k (getD t i 0)) 0 l) ∙ mark-sets k (getD t i 0)
+
+pub pgu-stays : (i : ℕ) → Lasting (λ (t : List ℕ). entryAt t i .pgu ≡ true)
+pgu-stays i t j k h = go (ℕ-discrete i j) (decLt j (length t))
+  where
+    v : ℕ
+    v = markOf k (getD t j 0)
+
+    go : Dec (i ≡ j) → Dec (j < length t) → entryAt (set t j v) i .pgu ≡ true
+    go (no q) d = ap (λ (x : ℕ). entryOf x .pgu) (getD-set-other t j i v 0 q) ∙ h
+    go (yes q) (yes l) = rw q (set-by-mark t j k l)
+    go (yes q) (no l) = ap (λ (x : List ℕ). entryAt x i .pgu) (set-out t j v (omega arith)) ∙ h
+
+-- the mark of a fetch by an entry that has it changes nothing
+pub marked-already : (t : List ℕ) (i : ℕ) → entryAt t i .pgu ≡ true → set t i (markOf Fetch (getD t i 0)) ≡ t
+marked-already t i h =
+    let e : ℕ = getD t i 0 in
+    let bit : e / 2048 % 2 ≡ 1 = eqb-true (e / 2048 % 2) 1 h in
+    let same : markOf Fetch e ≡ e = omega (arith, bit) in
+    ap (set t i) same ∙ set-getD t i 0

@@ -9,7 +9,7 @@ use native.Mathlib.Omega.{arith}
 use native.Mathlib.Nat.{le-trans}
 use native.Mathlib.Decide.{ℕ-discrete}
 use lib.Dec.{ltb, eqb}
-use borrow.Author.Tests.{leb-true, le-leb, eq-eqb}
+use borrow.Author.Tests.{leb-true, le-leb, lt-ltb, eq-eqb}
 use Rattle.isa.specs.Pages.{Entry, entryAt, somePermit, needed, ringAllows, physical, pagingStatus, inMemory}
 use Rattle.isa.specs.Pages.{withinMemory, judged}
 use Rattle.isa.specs.Isolation.{MarksAlone, permits, permitsWriting, someBelow, someEntry, inEither, permitted}
@@ -131,3 +131,10 @@ judged-by e slot words ring k va =
     go true p true q false r w = tt
     go true p true q true r false = tt
     go true p true q true r true = kind-by e ring va p r k q
+
+-- a fetch passes by an entry that permits it to the ring and names a page of memory
+pub judged-passes : (e : Entry) (slot words ring va : ℕ) → e .fetch ≡ true → e .ring ≤ ring → physical e va < words
+    → judged e slot words ring Fetch va ≡ Load (physical e va)
+unfolding judged withinMemory
+judged-passes e slot words ring va h l w =
+    rw (or-right (e .write || e .read) (e .fetch) h, h, le-leb (e .ring) ring l, lt-ltb (physical e va) words w) refl

@@ -30,12 +30,14 @@ pub const INTERNAL_LEVEL: u16 = 14;
 
 pub const STATUS_RANGE: u16 = 256;
 
-// Lent words: a page, the largest memory, the page tables; the first address of the page tables' window.
+// Lent words: a page, the largest memory, the page tables and one of them; the first address of the page tables' window.
 pub const PAGE_WORDS: usize = 1024;
 
 pub const LARGEST_MEMORY: usize = 524288;
 
 pub const TABLE_WORDS: usize = 256;
+
+pub const ENTRIES_IN_TABLE: usize = 64;
 
 pub const WINDOW_START: u16 = 0o177400;
 

@@ -43,16 +43,17 @@ impl Register {
     }
 }
 
-// A level's registers are one file, and a write changes one place of it.
+// A level's registers are one file, and a write changes one place of it. The fields stand in an order that this
+// compiler copies cheaply (docs/BENCHMARK.md).
 pub struct File {
     pub sts: u16,
     pub d: u16,
     pub p: u16,
-    pub b: u16,
+    pub x: u16,
     pub l: u16,
     pub a: u16,
     pub t: u16,
-    pub x: u16,
+    pub b: u16,
 }
 
 impl File {

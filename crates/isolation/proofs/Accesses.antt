@@ -3,15 +3,14 @@
 -- Assumes nothing.
 use Prim.Native.Nat.{ℕ, _+_, _*_, _/_, _%_, _<_, _≤_}
 use mathlib.Core.Path.{_≡_}
-use mathlib.Core.Bool.{Bool, true, false, cond, not, _&&_}
+use mathlib.Core.Bool.{Bool, true, false, cond}
 use mathlib.Core.Logic.{_⊎_, inl, inr}
 use mathlib.Core.List.{List, [], _∷_}
 use native.Mathlib.Omega.{arith}
-use lib.ListN.{getD, set}
 use lib.Dec.{eqb}
 use borrow.Author.Tests.{eq-eqb}
 use Rattle.isa.specs.Machine.{flag, flagPTM, ringOf, normalTableOf, alternateTableOf}
-use Rattle.isa.specs.Pages.{Entry, entryAt, judged, slotOf, tableOf, inWindow, translate, passes, markOf, marked}
+use Rattle.isa.specs.Pages.{Entry, entryAt, judged, slotOf, tableOf, inWindow, translate, passes, marked}
 use Rattle.isa.specs.Pages.{Tested, testAll, alsoAt, rightsOf}
 use Rattle.isa.specs.Isolation.{MarksAlone, permits, permitsWriting, permitted, permittedWriting}
 use Rattle.isa.specs.declared.machine.Core.{Core}
@@ -22,6 +21,7 @@ use Rattle.isa.specs.declared.access.Translation.the-variants.{NoAccess, Load, 
 use Rattle.isa.specs.declared.access.Translation.the-variants.{Protection, PageFault, OutOfRange}
 use Rattle.isa.proofs.Window.{no-window}
 use Rattle.isa.proofs.Marks.{Marked, mark-keeps}
+use Rattle.isa.proofs.Tables.{marked-keeps}
 use Rattle.isa.proofs.Permits.{By, judged-by, either-table, permits-later, writing-later}
 
 -- the start: its tables t₀, the normal one a, the alternate one b, and the ring ρ
@@ -98,17 +98,6 @@ module _ (t₀ : List ℕ) (a b ρ : ℕ) where
         (judged-by (entryAt t (slotOf (tableOf r (x .alternate)) (x .address)))
         (slotOf (tableOf r (x .alternate)) (x .address)) words (r .ring) (x .kind) (x .address)))
 
-    marked-keeps : (x : Access) → Marked (marked t words r x) t₀
-    unfolding marked
-    marked-keeps x = go (r .paging && not (inWindow r (x .address)) && passes (translate t words r x))
-      where
-        i : ℕ
-        i = slotOf (tableOf r (x .alternate)) (x .address)
-
-        go : (y : Bool) → Marked (cond y (set t i (markOf (x .kind) (getD t i 0))) t) t₀
-        go true = mark-keeps t t₀ i (x .kind) hm
-        go false = hm
-
   -- a list of accesses: each place allowed, and the tables changed in marks alone
   pub data AllAllowed : List Translation → Type 0 where
     none : AllAllowed []
@@ -123,7 +112,8 @@ module _ (t₀ : List ℕ) (a b ρ : ℕ) where
   tests-held words r low hr [] t hm = record { places = none; marks = hm }
   tests-held words r low hr (x ∷ xs) t hm =
       go (passes (translate t words r x))
-      (tests-held words r low hr xs (marked t words r x) (marked-keeps t words r low hm hr x))
+      (tests-held words r low hr xs (marked t words r x)
+      (marked-keeps (λ (y : List ℕ). Marked y t₀) (mark-keeps t₀) t words r x hm))
     where
       go : (y : Bool) → HeldTests (testAll (marked t words r x) words r xs)
           → HeldTests (cond y (alsoAt (translate t words r x) (testAll (marked t words r x) words r xs))
@@ -137,7 +127,7 @@ module _ (t₀ : List ℕ) (a b ρ : ℕ) where
     core-allowed x = translate-allowed t words (rightsOf c) ρ≤1 hm (held-rights c h) x
 
     pub core-marked : (x : Access) → Marked (marked t words (rightsOf c) x) t₀
-    core-marked x = marked-keeps t words (rightsOf c) ρ≤1 hm (held-rights c h) x
+    core-marked x = marked-keeps (λ (y : List ℕ). Marked y t₀) (mark-keeps t₀) t words (rightsOf c) x hm
 
     pub core-tests : (xs : List Access) → HeldTests (testAll t words (rightsOf c) xs)
     core-tests xs = tests-held words (rightsOf c) ρ≤1 (held-rights c h) xs t hm

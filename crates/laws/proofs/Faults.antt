@@ -42,7 +42,7 @@ use Rattle.isa.specs.declared.answer.Far.the-variants.{StoreBlock, LoadBlock}
 use Rattle.isa.proofs.Tests.{either, no-both}
 use Rattle.isa.proofs.Marks.{Marked, same-entry, mark-keeps}
 use Rattle.isa.proofs.Packing.{put-take}
-use Rattle.ranges.proofs.Pages.{marked-keeps, tested-keeps}
+use Rattle.isa.proofs.Tables.{marked-keeps, tested-keeps}
 use Rattle.laws.specs.Statement.{isFault, fetchOutcome, faultP, LeavesAllButP, FaultLeavesAllButP}
 use Rattle.laws.proofs.Registers.{p-at, put-p}
 
@@ -51,7 +51,7 @@ use Rattle.laws.proofs.Registers.{p-at, put-p}
 -- the tables t₀ with marks, t, after the tests of further accesses
 tested-marks : (xs : List Access) (t t₀ : List ℕ) (words : ℕ) (r : Rights) → Marked t t₀
     → Marked (testAll t words r xs .tables) t₀
-tested-marks xs t t₀ words r = tested-keeps (λ (x : List ℕ). Marked x t₀) (λ x i k. mark-keeps x t₀ i k) xs t words r
+tested-marks xs t t₀ words r = tested-keeps (λ (x : List ℕ). Marked x t₀) (mark-keeps t₀) xs t words r
 
 -- ---- a stage
 
@@ -215,7 +215,7 @@ unfolding stepIn
 step-in-leaves l c m t =
     let x = translate t (length m) (rightsOf c) (fetchOf c) in
     fetched-leaves m t l c (marked t (length m) (rightsOf c) (fetchOf c)) _ x
-    (marked-keeps (λ (x : List ℕ). Marked x t) (λ x i k. mark-keeps x t i k) t (length m) (rightsOf c) (fetchOf c)
+    (marked-keeps (λ (x : List ℕ). Marked x t) (mark-keeps t) t (length m) (rightsOf c) (fetchOf c)
     (λ i. same-entry (entryAt t i)))
 
 -- ---- the running level put back, and what is left done

@@ -3,10 +3,15 @@ use Prim.Native.Nat.{ℕ}
 use mathlib.Core.Bool.{Bool, not, _&&_}
 use mathlib.Core.List.{List}
 use lib.Dec.{eqb}
-use Rattle.isa.specs.Machine.{pack}
+use Rattle.isa.specs.Machine.{coreOf, pack}
 use Rattle.isa.specs.Step.{Turn, turn, highestLevel}
 use Rattle.isa.specs.declared.machine.Control.{Control}
+use Rattle.isa.specs.declared.machine.Core.{Core}
 use Rattle.levels.specs.declared.change.Advanced.{Advanced}
+
+-- the words of the level l among those of all levels, with the control words k
+abbrev pub coreAt : ℕ → Control → List ℕ → List ℕ → Core
+coreAt l k regs pcrs = coreOf (record { regs = regs; level = l; control = k; pcr = pcrs })
 
 -- by the control words alone: whether a change of the level l is due
 abbrev pub dueAt : ℕ → Control → Bool

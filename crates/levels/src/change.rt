@@ -7,8 +7,8 @@ ghost use lib.ListN.{length};
 ghost use Rattle.isa.specs.Machine.{pack};
 ghost use Rattle.isa.specs.Step.{highestLevel, levelChanged, turn};
 ghost use Rattle.levels.specs.Changes.{dueAt, advancedTurn};
-use crate::file_at;
-use crate::put_file;
+use crate::opened;
+use crate::put_back;
 use arithmetic::bits;
 use isa::machine::Control;
 use isa::machine::Core;
@@ -48,21 +48,13 @@ pub fn changed(level: u16, c: Core, regs: &mut [u16], pcrs: &mut [u16]) -> Advan
     ensures { λ r. ⌜ ((m t : List ℕ) → advancedTurn r (now (regs .exit)) (now (pcrs .exit)) m t
         ≡ turn (levelChanged (pack level c (now (regs .entry)) (now (pcrs .entry)))) 0 m t) ⌝ }
 {
-    let f = c.file;
     let mut k = c.control;
     let to = highest_level(k);
-    let i = level as usize;
-    let j = to as usize;
-    put_file(regs, level, f);
-    pcrs[i] = c.pcr;
+    put_back(level, c, regs, pcrs);
     k.pvl = level;
     Advanced {
         level: to,
-        core: Core {
-            file: file_at(regs, to),
-            pcr: pcrs[j],
-            control: k,
-        },
+        core: opened(to, k, regs, pcrs),
         before: 0,
         gave: 0,
     }

@@ -3,10 +3,10 @@
 ghost use Rattle.isa.specs.Machine.{levelCount, registerWords};
 ghost use mathlib.Core.Path.{_≡_};
 ghost use Prim.Native.Nat.{_<_};
-ghost use lib.ListN.{length};
-ghost use Rattle.isa.specs.Machine.{fileAt, putFile, coreOf, pack};
+ghost use lib.ListN.{length, set};
+ghost use Rattle.isa.specs.Machine.{fileAt, putFile};
+ghost use Rattle.levels.specs.Changes.{coreAt};
 use isa::constant::FILE_SIZE;
-use isa::constant::LEVEL_COUNT;
 use isa::constant::NUMBER_A;
 use isa::constant::NUMBER_B;
 use isa::constant::NUMBER_D;
@@ -14,11 +14,10 @@ use isa::constant::NUMBER_L;
 use isa::constant::NUMBER_P;
 use isa::constant::NUMBER_T;
 use isa::constant::NUMBER_X;
-use isa::constant::REGISTER_WORDS;
+use isa::machine::Control;
 use isa::machine::Core;
 use isa::machine::File;
 use isa::machine::Register;
-use isa::machine::State;
 
 pub mod change;
 pub mod pcr;
@@ -60,44 +59,31 @@ pub fn put_file(regs: &mut [u16], level: u16, f: File)
     regs[i + NUMBER_X] = f.get(Register::X);
 }
 
-// The running level's words out of a state.
-pub fn opened(s: State) -> Core
-    requires { ⌜ s .level < levelCount ⌝ }
-    ensures { λ c. ⌜ c ≡ coreOf s ⌝ }
+// A level's words out of those of all levels, with the control words k.
+pub fn opened(level: u16, k: Control, regs: &[u16], pcrs: &[u16]) -> Core
+    requires { ⌜ level < levelCount ⌝ }
+    requires { ⌜ length (now regs) ≡ registerWords ⌝ }
+    requires { ⌜ length (now pcrs) ≡ levelCount ⌝ }
+    ensures { λ c. ⌜ c ≡ coreAt level k (now (regs .entry)) (now (pcrs .entry)) ⌝ }
 {
-    let level = s.level;
-    let regs = s.regs;
-    let k = s.control;
-    let f = file_at(&regs, level);
     let i = level as usize;
     Core {
-        file: f,
-        pcr: s.pcr[i],
+        file: file_at(regs, level),
+        pcr: pcrs[i],
         control: k,
     }
 }
 
-// The registers and the PCRs of all levels.
-pub type AllRegisters = [u16; REGISTER_WORDS];
-
-pub type AllPcrs = [u16; LEVEL_COUNT];
-
-// The state of the running level's words and those of all levels.
-pub fn closed(level: u16, c: Core, regs: AllRegisters, pcrs: AllPcrs) -> State
+// .. and put back.
+pub fn put_back(level: u16, c: Core, regs: &mut [u16], pcrs: &mut [u16])
     requires { ⌜ level < levelCount ⌝ }
-    ensures { λ s. ⌜ s ≡ pack level c regs pcrs ⌝ }
+    requires { ⌜ length (now regs) ≡ registerWords ⌝ }
+    requires { ⌜ length (now pcrs) ≡ levelCount ⌝ }
+    ensures { λ _. ⌜ now (regs .exit) ≡ putFile (now (regs .entry)) level (c .file) ⌝ }
+    ensures { λ _. ⌜ now (pcrs .exit) ≡ set (now (pcrs .entry)) level (c .pcr) ⌝ }
 {
-    let mut b = regs;
-    let mut p = pcrs;
     let f = c.file;
-    let k = c.control;
     let i = level as usize;
-    put_file(&mut b, level, f);
-    p[i] = c.pcr;
-    State {
-        regs: b,
-        level: level,
-        control: k,
-        pcr: p,
-    }
+    put_file(regs, level, f);
+    pcrs[i] = c.pcr;
 }

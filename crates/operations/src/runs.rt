@@ -24,7 +24,8 @@ pub fn run_by(s: State, mem: &mut [u16], tables: &mut [u16], n: u64, first: bool
     let a = state_answer(s, mem, tables);
     match a {
         Answer::Done => {
-            let r = run(s, mem, tables, n, first);
+            let classes = word_class::table::table();
+            let r = run(&classes, s, mem, tables, n, first);
             let after = r.state;
             let reason = r.reason;
             RunResult {

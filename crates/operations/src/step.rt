@@ -23,7 +23,8 @@ pub fn step(s: State, mem: &mut [u16], tables: &mut [u16]) -> StepResult
     let a = state_answer(s, mem, tables);
     match a {
         Answer::Done => {
-            let r = run(s, mem, tables, 1, false);
+            let none = [0u8; 0];
+            let r = run(&none, s, mem, tables, 1, false);
             let after = r.state;
             StepResult {
                 answer: StepAnswer::Stepped(r.gave),

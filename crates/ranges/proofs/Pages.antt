@@ -3,7 +3,7 @@
 use Prim.Native.Nat.{ℕ, _*_, _%_, _<_}
 use native.Mathlib.Omega.{arith}
 use mathlib.Core.Path.{_≡_}
-use mathlib.Core.Bool.{Bool, false, not, _&&_}
+use mathlib.Core.Bool.{Bool, false, not}
 use mathlib.Core.List.{List, [], _∷_}
 use lib.ListN.{drop, getD, set}
 use lib.Dec.{eqb, ltb}
@@ -21,6 +21,7 @@ use Rattle.isa.specs.declared.access.Rights.{Rights}
 use Rattle.isa.specs.declared.access.Translation.{Translation}
 use Rattle.isa.specs.declared.access.Translation.the-variants.{NoAccess, Load, Store, LoadTable, StoreTable}
 use Rattle.isa.specs.declared.access.Translation.the-variants.{Protection, PageFault, OutOfRange}
+use Rattle.isa.proofs.Tables.{marked-keeps, tested-keeps}
 use Rattle.isa.proofs.Tests.{either}
 use Rattle.ranges.proofs.Places.{Each, set-words, nil-words, cons-words, drop-each}
 use Rattle.ranges.proofs.Control.{PgsFits, CoreFits, internal-fit, control-fits, gives-fits}
@@ -133,21 +134,6 @@ faulted-fits x {c} e f q =
     (control-fits q (internal-fit (q .control) (q .control .iid) (q .control .iie) (after-fits (q .control .pgs) x f)))
 
 -- ---- marks and tests
-
--- what a mark keeps of the tables, the tests of an instruction's accesses keep
-module _ (K : List ℕ → Type 0)
-    (mark : (t : List ℕ) (i : ℕ) (k : AccessKind) → K t → K (set t i (markOf k (getD t i 0)))) where
-  pub marked-keeps : (t : List ℕ) (words : ℕ) (r : Rights) (x : Access) → K t → K (marked t words r x)
-  unfolding marked
-  marked-keeps t words r x h =
-      either K (r .paging && not (inWindow r (x .address)) && passes (translate t words r x))
-      (mark t (slotOf (tableOf r (x .alternate)) (x .address)) (x .kind) h) h
-
-  pub tested-keeps : (xs : List Access) (t : List ℕ) (words : ℕ) (r : Rights) → K t → K (testAll t words r xs .tables)
-  tested-keeps [] t words r h = h
-  tested-keeps (x ∷ xs) t words r h =
-      either (λ (y : Tested). K (y .tables)) (passes (translate t words r x))
-      (tested-keeps xs (marked t words r x) words r (marked-keeps t words r x h)) h
 
 -- the first fault is that of an access
 pub tested-fault : (xs : List Access) (t : List ℕ) (words : ℕ) {r : Rights} → RightsFit r

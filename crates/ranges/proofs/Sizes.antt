@@ -31,7 +31,8 @@ use Rattle.isa.specs.declared.answer.Far.the-variants.{Nothing, Call, ReadRegis
 use Rattle.isa.specs.declared.answer.Far.the-variants.{StoreBlock, LoadBlock}
 use Rattle.ranges.specs.Sound.{Sized}
 use Rattle.isa.proofs.Tests.{either}
-use Rattle.ranges.proofs.Pages.{marked-keeps, tested-keeps, stored-keeps}
+use Rattle.isa.proofs.Tables.{marked-keeps, tested-keeps}
+use Rattle.ranges.proofs.Pages.{stored-keeps}
 
 -- a list of n words
 abbrev Long : ℕ → List ℕ → Type 0

@@ -4,13 +4,14 @@ ghost use mathlib.Core.Path.{_≡_};
 ghost use mathlib.Core.Bool.{false};
 ghost use Prim.Native.Nat.{_<_};
 ghost use lib.ListN.{length};
+ghost use Rattle.word_class.specs.Classes.{Sorts};
 ghost use Rattle.isa.specs.Run.{ended, runFrom};
 ghost use Rattle.isa.specs.Step.{turn, step};
 use crate::machine::run_in;
 use isa::answer::Reason;
 use isa::machine::State;
-use levels::closed;
 use levels::opened;
+use levels::put_back;
 
 mod machine;
 
@@ -23,7 +24,15 @@ pub struct RunEnd {
 }
 
 // At most n steps, through or to the first interrupt. A run through of one step is the step.
-pub fn run(s: State, mem: &mut [u16], tables: &mut [u16], n: u64, first: bool) -> RunEnd
+pub fn run(
+    classes: &[u8],
+    s: State,
+    mem: &mut [u16],
+    tables: &mut [u16],
+    n: u64,
+    first: bool,
+) -> RunEnd
+    requires { ⌜ Sorts (now classes) ⌝ }
     requires { ⌜ s .level < levelCount ⌝ }
     requires { ⌜ length (now tables) ≡ tableWords ⌝ }
     ensures { λ r. ⌜ ended (r .reason) (r .steps) (r .state) (now (mem .exit)) (now (tables .exit))
@@ -34,9 +43,12 @@ pub fn run(s: State, mem: &mut [u16], tables: &mut [u16], n: u64, first: bool) -
 {
     let mut regs = s.regs;
     let mut pcrs = s.pcr;
+    let k = s.control;
+    let c = opened(s.level, k, &regs, &pcrs);
     let r = run_in(
+        classes,
         s.level,
-        opened(s),
+        c,
         &mut regs,
         &mut pcrs,
         mem,
@@ -44,10 +56,17 @@ pub fn run(s: State, mem: &mut [u16], tables: &mut [u16], n: u64, first: bool) -
         n,
         first,
     );
-    let c = r.core;
+    let core = r.core;
+    let control = core.control;
     let reason = r.reason;
+    put_back(r.level, core, &mut regs, &mut pcrs);
     RunEnd {
-        state: closed(r.level, c, regs, pcrs),
+        state: State {
+            regs: regs,
+            level: r.level,
+            control: control,
+            pcr: pcrs,
+        },
         steps: r.steps,
         gave: r.gave,
         reason: reason,

@@ -5,6 +5,7 @@ ghost use mathlib.Core.Bool.{false, not, _&&_};
 ghost use Prim.Native.Nat.{_<_};
 ghost use lib.Dec.{eqb};
 ghost use lib.ListN.{length};
+ghost use Rattle.word_class.specs.Classes.{Sorts};
 ghost use Rattle.isa.specs.Machine.{pack};
 ghost use Rattle.isa.specs.Run.{runFrom};
 ghost use Rattle.isa.specs.Step.{step, turn};
@@ -73,6 +74,7 @@ fn at_rest(first: bool, level: u16, c: Core) -> Reason
 // Before each step: stopped, then (to the first interrupt only) a level due, then spent; after it an interrupt. A run
 // of one step serves the step, too.
 pub fn run_in(
+    classes: &[u8],
     start: u16,
     c: Core,
     regs: &mut [u16],
@@ -82,6 +84,7 @@ pub fn run_in(
     n: u64,
     first: bool,
 ) -> LoopEnd
+    requires { ⌜ Sorts (now classes) ⌝ }
     requires { ⌜ start < levelCount ⌝ }
     requires { ⌜ (length (now regs) ≡ registerWords) × (length (now pcrs) ≡ levelCount) ⌝ }
     requires { ⌜ length (now tables) ≡ tableWords ⌝ }
@@ -106,7 +109,7 @@ pub fn run_in(
         if level_ends(first, level, k) {
             return ended(level, core, steps, gave, Reason::Level);
         }
-        let out = advance(level, core, regs, pcrs, mem, tables, n - steps);
+        let out = advance(classes, level, core, regs, pcrs, mem, tables, n - steps);
         level = out.level;
         core = out.core;
         gave = out.gave;

@@ -4,9 +4,11 @@ ghost use Rattle.isa.specs.Machine.{tableWords};
 ghost use mathlib.Core.Path.{_≡_};
 ghost use Prim.Native.Nat.{_<_};
 ghost use lib.ListN.{length};
+ghost use Rattle.word_class.specs.Classes.{Sorts};
 ghost use Rattle.isa.specs.Pages.{loweredPcr};
 ghost use Rattle.run_level.specs.Bursts.{QuietSteps, QuietStep};
 use event::Event;
+use exec_step::fetch::no_page;
 use exec_step::step_in;
 use isa::machine::File;
 use paging::rights::level_rights;
@@ -36,6 +38,7 @@ fn burst_of(file: File, p: u16, ring: u32, before: u64, event: Event) -> Burst
 // At most n steps, up to the first that ends the burst. The PCR's tables and the paging switch stay; the ring is
 // carried.
 pub fn quiet_steps(
+    classes: &[u8],
     f: File,
     p: u16,
     paging: u16,
@@ -43,6 +46,7 @@ pub fn quiet_steps(
     tables: &mut [u16],
     n: u64,
 ) -> Burst
+    requires { ⌜ Sorts (now classes) ⌝ }
     requires { ⌜ length (now tables) ≡ tableWords ⌝ }
     requires { ⌜ 0 < n ⌝ }
     ensures { λ b. ⌜ b .before < n ⌝ }
@@ -55,11 +59,13 @@ pub fn quiet_steps(
     let mut file = f;
     let mut ring = base.ring;
     let mut left = n;
+    let mut page = no_page();
     while 0 < left {
-        let s = step_in(file, on_ring(base, ring), mem, tables);
+        let s = step_in(classes, file, on_ring(base, ring), page, mem, tables);
         let event = s.event;
         file = s.file;
         ring = s.ring;
+        page = s.page;
         if event::ends(event) {
             return burst_of(file, p, ring, n - left, event);
         }

@@ -5,6 +5,7 @@ ghost use mathlib.Core.Bool.{false};
 ghost use Prim.Native.Nat.{_<_};
 ghost use lib.Dec.{eqb};
 ghost use lib.ListN.{length};
+ghost use Rattle.word_class.specs.Classes.{Sorts};
 ghost use Rattle.isa.specs.Machine.{pack};
 ghost use Rattle.isa.specs.Step.{step};
 ghost use Rattle.levels.specs.Changes.{advancedTurn};
@@ -50,6 +51,7 @@ fn settled(
 
 // At most n steps, one or more, of a machine that is not stopped: a change of level, or a burst.
 pub fn advance(
+    classes: &[u8],
     level: u16,
     c: Core,
     regs: &mut [u16],
@@ -58,6 +60,7 @@ pub fn advance(
     tables: &mut [u16],
     n: u64,
 ) -> Advanced
+    requires { ⌜ Sorts (now classes) ⌝ }
     requires { ⌜ Levels level (now regs) (now pcrs) ⌝ }
     requires { ⌜ length (now tables) ≡ tableWords ⌝ }
     requires { ⌜ 0 < n ⌝ }
@@ -75,6 +78,6 @@ pub fn advance(
         return changed(level, c, regs, pcrs);
     }
     let f = c.file;
-    let b = quiet_steps(f, c.pcr, k.paging, mem, tables, n);
+    let b = quiet_steps(classes, f, c.pcr, k.paging, mem, tables, n);
     settled(level, b, k, regs, pcrs, mem, tables)
 }

@@ -1,40 +1,15 @@
--- Each arm is a row of the table, found by its first code: the single numbers, then the ranges, then what `_` leaves.
+-- Each arm is a class; `_` stands for the rest.
 -- Assumes nothing.
-use Prim.Native.Nat.{ℕ}
-use native.Mathlib.Omega.{arith}
-use mathlib.Core.Path.{refl, ap, _∙_}
-use mathlib.Core.List.{List, [], _∷_}
+use mathlib.Core.Path.{ap, _∙_}
 use borrow.Author.Needs.{needs}
+use Rattle.isa.specs.Decode.{byNumber}
 use Rattle.isa.specs.declared.instruction.Instruction.the-variants.{Execute}
-use Rattle.decode.proofs.Laws.{row-from, no-row}
+use Rattle.decode.proofs.Laws.{class-arm, class-rest}
 use Rattle.decode.proofs.decode.Statement.{statement}
 use Rattle.decode.proofs.decode.Tie as tie
 
-abbrev singles : List ℕ
-singles =
-    0o1504
-    ∷ 0o1503
-    ∷ 0o1502
-    ∷ 0o1501
-    ∷ 0o1500
-    ∷ 0o1436
-    ∷ 0o1434
-    ∷ 0o1432
-    ∷ 0o1430
-    ∷ 0o1426
-    ∷ 0o1424
-    ∷ 0o1422
-    ∷ 0o1420
-    ∷ 0o1416
-    ∷ 0o1414
-    ∷ 0o1412
-    ∷ 0o1410
-    ∷ 0o1406
-    ∷ 0o1404
-    ∷ 0o1400
-    ∷ []
-
 pub decode-spec : {M : Type 1} → statement M
+unfolding byNumber
 decode-spec =
     tie.close
     (tie.spec
@@ -92,73 +67,68 @@ decode-spec =
     (λ c κs. search needs)
     (λ c κs. search needs)
     (λ c κs. search needs)
-    (λ c. c .skip .ensures ∙ row-from 0o1400 0o1401 _ refl (omega arith) (omega arith))
-    (λ c. c .skip2 .ensures ∙ row-from 0o1404 0o1405 _ refl (omega arith) (omega arith))
-    (λ c. ap Execute (c .source-of .ensures) ∙ row-from 0o1406 0o1407 _ refl (omega arith) (omega arith))
-    (λ c. c .skip3 .ensures ∙ row-from 0o1410 0o1411 _ refl (omega arith) (omega arith))
-    (λ c. c .multiply .ensures ∙ row-from 0o1412 0o1413 _ refl (omega arith) (omega arith))
-    (λ c. c .skip4 .ensures ∙ row-from 0o1414 0o1415 _ refl (omega arith) (omega arith))
-    (λ c. c .divide .ensures ∙ row-from 0o1416 0o1417 _ refl (omega arith) (omega arith))
-    (λ c. c .skip5 .ensures ∙ row-from 0o1420 0o1421 _ refl (omega arith) (omega arith))
-    (λ c. row-from 0o1422 0o1423 _ refl (omega arith) (omega arith))
-    (λ c. c .skip6 .ensures ∙ row-from 0o1424 0o1425 _ refl (omega arith) (omega arith))
-    (λ c. row-from 0o1426 0o1427 _ refl (omega arith) (omega arith))
-    (λ c. c .skip7 .ensures ∙ row-from 0o1430 0o1431 _ refl (omega arith) (omega arith))
-    (λ c. row-from 0o1432 0o1433 _ refl (omega arith) (omega arith))
-    (λ c. c .skip8 .ensures ∙ row-from 0o1434 0o1435 _ refl (omega arith) (omega arith))
-    (λ c. c .ident .ensures ∙ row-from 0o1436 0o1437 _ refl (omega arith) (omega arith))
-    (λ c. c .tra-of .ensures ∙ row-from 0o1500 0o1501 _ refl (omega arith) (omega arith))
-    (λ c. c .trr-of .ensures ∙ row-from 0o1501 0o1502 _ refl (omega arith) (omega arith))
-    (λ c. c .masked-of .ensures ∙ row-from 0o1502 0o1503 _ refl (omega arith) (omega arith))
-    (λ c. c .masked-of2 .ensures ∙ row-from 0o1503 0o1504 _ refl (omega arith) (omega arith))
-    (λ c. c .switch-of .ensures ∙ row-from 0o1504 0o1505 _ refl (omega arith) (omega arith))
-    (λ c. c .memory .ensures ∙ row-from 0o0000 0o0040 _ refl (omega arith) (omega arith))
-    (λ c. c .memory2 .ensures ∙ row-from 0o0040 0o0100 _ refl (omega arith) (omega arith))
-    (λ c. c .memory3 .ensures ∙ row-from 0o0100 0o0140 _ refl (omega arith) (omega arith))
-    (λ c. c .memory4 .ensures ∙ row-from 0o0140 0o0200 _ refl (omega arith) (omega arith))
-    (λ c. c .memory5 .ensures ∙ row-from 0o0200 0o0240 _ refl (omega arith) (omega arith))
-    (λ c. c .memory6 .ensures ∙ row-from 0o0240 0o0300 _ refl (omega arith) (omega arith))
-    (λ c. c .memory7 .ensures ∙ row-from 0o0300 0o0340 _ refl (omega arith) (omega arith))
-    (λ c. c .memory8 .ensures ∙ row-from 0o0340 0o0400 _ refl (omega arith) (omega arith))
-    (λ c. c .memory9 .ensures ∙ row-from 0o0400 0o0440 _ refl (omega arith) (omega arith))
-    (λ c. c .memory10 .ensures ∙ row-from 0o0440 0o0500 _ refl (omega arith) (omega arith))
-    (λ c. c .memory11 .ensures ∙ row-from 0o0500 0o0540 _ refl (omega arith) (omega arith))
-    (λ c. c .memory12 .ensures ∙ row-from 0o0540 0o0600 _ refl (omega arith) (omega arith))
-    (λ c. c .memory13 .ensures ∙ row-from 0o0600 0o0640 _ refl (omega arith) (omega arith))
-    (λ c. c .memory14 .ensures ∙ row-from 0o0640 0o0700 _ refl (omega arith) (omega arith))
-    (λ c. c .memory15 .ensures ∙ row-from 0o0700 0o0740 _ refl (omega arith) (omega arith))
-    (λ c. c .memory16 .ensures ∙ row-from 0o0740 0o1000 _ refl (omega arith) (omega arith))
-    (λ c. c .memory17 .ensures ∙ row-from 0o1200 0o1240 _ refl (omega arith) (omega arith))
-    (λ c. c .memory18 .ensures ∙ row-from 0o1240 0o1300 _ refl (omega arith) (omega arith))
-    (λ c. c .jump .ensures ∙ row-from 0o1300 0o1340 _ refl (omega arith) (omega arith))
-    (λ c. c .memory19 .ensures ∙ row-from 0o1340 0o1400 _ refl (omega arith) (omega arith))
-    (λ c. c .logic .ensures ∙ row-from 0o1440 0o1444 _ refl (omega arith) (omega arith))
-    (λ c. c .logic2 .ensures ∙ row-from 0o1444 0o1450 _ refl (omega arith) (omega arith))
-    (λ c. c .logic3 .ensures ∙ row-from 0o1450 0o1454 _ refl (omega arith) (omega arith))
-    (λ c. c .logic4 .ensures ∙ row-from 0o1454 0o1460 _ refl (omega arith) (omega arith))
-    (λ c. c .adding .ensures ∙ row-from 0o1460 0o1464 _ refl (omega arith) (omega arith))
-    (λ c. c .adding2 .ensures ∙ row-from 0o1464 0o1470 _ refl (omega arith) (omega arith))
-    (λ c. c .adding3 .ensures ∙ row-from 0o1470 0o1474 _ refl (omega arith) (omega arith))
-    (λ c. row-from 0o1474 0o1500 _ refl (omega arith) (omega arith))
-    (λ c. row-from 0o1510 0o1514 _ refl (omega arith) (omega arith))
-    (λ c. c .srb-of .ensures ∙ row-from 0o1524 0o1526 _ refl (omega arith) (omega arith))
-    (λ c. c .lrb-of .ensures ∙ row-from 0o1526 0o1530 _ refl (omega arith) (omega arith))
-    (λ c. c .monitor .ensures ∙ row-from 0o1530 0o1534 _ refl (omega arith) (omega arith))
-    (λ c. c .irw .ensures ∙ row-from 0o1534 0o1536 _ refl (omega arith) (omega arith))
-    (λ c. c .irr .ensures ∙ row-from 0o1536 0o1540 _ refl (omega arith) (omega arith))
-    (λ c. c .shift-of .ensures ∙ row-from 0o1540 0o1600 _ refl (omega arith) (omega arith))
-    (λ c. c .iox .ensures ∙ row-from 0o1640 0o1700 _ refl (omega arith) (omega arith))
-    (λ c. c .set-argument .ensures ∙ row-from 0o1700 0o1720 _ refl (omega arith) (omega arith))
-    (λ c. c .add-argument .ensures ∙ row-from 0o1720 0o1740 _ refl (omega arith) (omega arith))
-    (λ c. c .bit-instruction .ensures ∙ row-from 0o1740 0o2000 _ refl (omega arith) (omega arith))
-    -- `_`: 100000 to 117777, 140000 to 143777, 150500 to 150777, 151400 to 152377, 160000 to 163777, and none above
-    (λ c. row-from 0o1000 0o1200 _ refl (omega arith) (omega arith))
+    (λ c κs. search needs)
+    (λ c. c .memory .ensures ∙ class-arm _ 0 (c .before .before .class-of .ensures) (c .before .match .keys1))
+    (λ c. c .memory2 .ensures ∙ class-arm _ 1 (c .before .before .class-of .ensures) (c .before .match .keys2))
+    (λ c. c .memory3 .ensures ∙ class-arm _ 2 (c .before .before .class-of .ensures) (c .before .match .keys3))
+    (λ c. c .memory4 .ensures ∙ class-arm _ 3 (c .before .before .class-of .ensures) (c .before .match .keys4))
+    (λ c. c .memory5 .ensures ∙ class-arm _ 4 (c .before .before .class-of .ensures) (c .before .match .keys5))
+    (λ c. c .memory6 .ensures ∙ class-arm _ 5 (c .before .before .class-of .ensures) (c .before .match .keys6))
+    (λ c. c .memory7 .ensures ∙ class-arm _ 6 (c .before .before .class-of .ensures) (c .before .match .keys7))
+    (λ c. c .memory8 .ensures ∙ class-arm _ 7 (c .before .before .class-of .ensures) (c .before .match .keys8))
+    (λ c. c .memory9 .ensures ∙ class-arm _ 8 (c .before .before .class-of .ensures) (c .before .match .keys9))
+    (λ c. c .memory10 .ensures ∙ class-arm _ 9 (c .before .before .class-of .ensures) (c .before .match .keys10))
+    (λ c. c .memory11 .ensures ∙ class-arm _ 10 (c .before .before .class-of .ensures) (c .before .match .keys11))
+    (λ c. c .memory12 .ensures ∙ class-arm _ 11 (c .before .before .class-of .ensures) (c .before .match .keys12))
+    (λ c. c .memory13 .ensures ∙ class-arm _ 12 (c .before .before .class-of .ensures) (c .before .match .keys13))
+    (λ c. c .memory14 .ensures ∙ class-arm _ 13 (c .before .before .class-of .ensures) (c .before .match .keys14))
+    (λ c. c .memory15 .ensures ∙ class-arm _ 14 (c .before .before .class-of .ensures) (c .before .match .keys15))
+    (λ c. c .memory16 .ensures ∙ class-arm _ 15 (c .before .before .class-of .ensures) (c .before .match .keys16))
+    (λ c. c .memory17 .ensures ∙ class-arm _ 16 (c .before .before .class-of .ensures) (c .before .match .keys17))
+    (λ c. c .memory18 .ensures ∙ class-arm _ 17 (c .before .before .class-of .ensures) (c .before .match .keys18))
+    (λ c. c .jump .ensures ∙ class-arm _ 18 (c .before .before .class-of .ensures) (c .before .match .keys19))
+    (λ c. c .memory19 .ensures ∙ class-arm _ 19 (c .before .before .class-of .ensures) (c .before .match .keys20))
+    (λ c. c .skip .ensures ∙ class-arm _ 20 (c .before .before .class-of .ensures) (c .before .match .keys21))
+    (λ c. c .skip2 .ensures ∙ class-arm _ 21 (c .before .before .class-of .ensures) (c .before .match .keys22))
     (λ c.
-    let tests = c .before .before .before .before in
-    no-row singles 0o1400 0o0040 _ _ refl (tests .before .before .before .match .rest) (omega arith) (omega arith))
+    let sorted = c .before in
+    ap Execute (c .source-of .ensures) ∙ class-arm _ 22 (sorted .before .class-of .ensures) (sorted .match .keys23))
+    (λ c. c .skip3 .ensures ∙ class-arm _ 23 (c .before .before .class-of .ensures) (c .before .match .keys24))
+    (λ c. c .multiply .ensures ∙ class-arm _ 24 (c .before .before .class-of .ensures) (c .before .match .keys25))
+    (λ c. c .skip4 .ensures ∙ class-arm _ 25 (c .before .before .class-of .ensures) (c .before .match .keys26))
+    (λ c. c .divide .ensures ∙ class-arm _ 26 (c .before .before .class-of .ensures) (c .before .match .keys27))
+    (λ c. c .skip5 .ensures ∙ class-arm _ 27 (c .before .before .class-of .ensures) (c .before .match .keys28))
+    (λ c. class-arm _ 28 (c .before .class-of .ensures) (c .match .keys29))
+    (λ c. c .skip6 .ensures ∙ class-arm _ 29 (c .before .before .class-of .ensures) (c .before .match .keys30))
+    (λ c. class-arm _ 30 (c .before .class-of .ensures) (c .match .keys31))
+    (λ c. c .skip7 .ensures ∙ class-arm _ 31 (c .before .before .class-of .ensures) (c .before .match .keys32))
+    (λ c. class-arm _ 32 (c .before .class-of .ensures) (c .match .keys33))
+    (λ c. c .skip8 .ensures ∙ class-arm _ 33 (c .before .before .class-of .ensures) (c .before .match .keys34))
+    (λ c. c .ident .ensures ∙ class-arm _ 34 (c .before .before .class-of .ensures) (c .before .match .keys35))
+    (λ c. c .logic .ensures ∙ class-arm _ 35 (c .before .before .class-of .ensures) (c .before .match .keys36))
+    (λ c. c .logic2 .ensures ∙ class-arm _ 36 (c .before .before .class-of .ensures) (c .before .match .keys37))
+    (λ c. c .logic3 .ensures ∙ class-arm _ 37 (c .before .before .class-of .ensures) (c .before .match .keys38))
+    (λ c. c .logic4 .ensures ∙ class-arm _ 38 (c .before .before .class-of .ensures) (c .before .match .keys39))
+    (λ c. c .adding .ensures ∙ class-arm _ 39 (c .before .before .class-of .ensures) (c .before .match .keys40))
+    (λ c. c .adding2 .ensures ∙ class-arm _ 40 (c .before .before .class-of .ensures) (c .before .match .keys41))
+    (λ c. c .adding3 .ensures ∙ class-arm _ 41 (c .before .before .class-of .ensures) (c .before .match .keys42))
+    (λ c. class-arm _ 42 (c .before .class-of .ensures) (c .match .keys43))
+    (λ c. c .tra-of .ensures ∙ class-arm _ 43 (c .before .before .class-of .ensures) (c .before .match .keys44))
+    (λ c. c .trr-of .ensures ∙ class-arm _ 44 (c .before .before .class-of .ensures) (c .before .match .keys45))
+    (λ c. c .masked-of .ensures ∙ class-arm _ 45 (c .before .before .class-of .ensures) (c .before .match .keys46))
+    (λ c. c .masked-of2 .ensures ∙ class-arm _ 46 (c .before .before .class-of .ensures) (c .before .match .keys47))
+    (λ c. c .switch-of .ensures ∙ class-arm _ 47 (c .before .before .class-of .ensures) (c .before .match .keys48))
+    (λ c. class-arm _ 48 (c .before .class-of .ensures) (c .match .keys49))
+    (λ c. c .srb-of .ensures ∙ class-arm _ 49 (c .before .before .class-of .ensures) (c .before .match .keys50))
+    (λ c. c .lrb-of .ensures ∙ class-arm _ 50 (c .before .before .class-of .ensures) (c .before .match .keys51))
+    (λ c. c .monitor .ensures ∙ class-arm _ 51 (c .before .before .class-of .ensures) (c .before .match .keys52))
+    (λ c. c .irw .ensures ∙ class-arm _ 52 (c .before .before .class-of .ensures) (c .before .match .keys53))
+    (λ c. c .irr .ensures ∙ class-arm _ 53 (c .before .before .class-of .ensures) (c .before .match .keys54))
+    (λ c. c .shift-of .ensures ∙ class-arm _ 54 (c .before .before .class-of .ensures) (c .before .match .keys55))
+    (λ c. c .iox .ensures ∙ class-arm _ 55 (c .before .before .class-of .ensures) (c .before .match .keys56))
+    (λ c. c .set-argument .ensures ∙ class-arm _ 56 (c .before .before .class-of .ensures) (c .before .match .keys57))
+    (λ c. c .add-argument .ensures ∙ class-arm _ 57 (c .before .before .class-of .ensures) (c .before .match .keys58))
     (λ c.
-    let tests = c .before .before .before .before in
-    no-row singles 0o1500 0o0010 _ _ refl (tests .before .match .rest) (omega arith) (omega arith))
-    (λ c. row-from 0o1514 0o1524 _ refl (omega arith) (omega arith))
-    (λ c. row-from 0o1600 0o1640 _ refl (omega arith) (omega arith))
-    (λ c. absurd (let none : ⊥ = omega arith in none)))
+    let sorted = c .before in
+    c .bit-instruction .ensures ∙ class-arm _ 58 (sorted .before .class-of .ensures) (sorted .match .keys59))
+    (λ c. class-rest _ _ (c .before .class-of .ensures) (c .match .rest)))

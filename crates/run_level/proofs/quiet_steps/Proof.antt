@@ -15,6 +15,8 @@ use Rattle.event.specs.declared.Event.{Event}
 use Rattle.event.specs.declared.Event.the-variants.{Fine}
 use Rattle.paging.specs.Levels.{onRing}
 use Rattle.paging.proofs.Levels.{same-ring}
+use Rattle.exec_step.specs.Fetches.{Kept}
+use Rattle.exec_step.proofs.Fetches.{none-kept}
 use Rattle.run_level.proofs.Bursts.{Level, Steps, Quiet, at-start, all-quiet, the-only, then-ends, first-step}
 use Rattle.run_level.proofs.Bursts.{then-quiet, levelOn, stepped, Answered}
 use Rattle.run_level.proofs.Laws.{fine-event}
@@ -25,25 +27,29 @@ use Rattle.run_level.proofs.quiet_steps.Tie as tie
 abbrev begun : File → ℕ → List ℕ → List ℕ → Level
 begun f p m t = record { file = f; pcr = p; memory = m; tables = t }
 
--- n - left quiet steps lead from there to where the level stands
+-- n - left quiet steps lead from there to where the level stands, with the page that is kept
 abbrev Inv-loop : tie.InvT-loop
-Inv-loop p paging mem₀ tables₀ n base file₀ ring₀ left₀ mem tables file ring left =
+Inv-loop classes p paging mem₀ tables₀ n base file₀ ring₀ left₀ page₀ mem tables file ring left page =
     (Quiet paging n (begun file₀ p mem₀ tables₀) (n - left) (levelOn file p ring mem tables))
-    × (((left ≤ n) × (ring < 4)) × ((length mem ≡ length mem₀) × (length tables ≡ length tables₀)))
+    × (((left ≤ n) × (ring < 4))
+    × (((length mem ≡ length mem₀) × (length tables ≡ length tables₀))
+    × Kept (length mem) (onRing base ring) page tables))
 
 abbrev μ-loop : tie.MeasureT-loop
-μ-loop p paging mem₀ tables₀ n base file₀ ring₀ left₀ mem tables file ring left = left
+μ-loop classes p paging mem₀ tables₀ n base file₀ ring₀ left₀ page₀ mem tables file ring left page = left
 
 -- ---- places: the step before its event was asked for; the loop's test before the step; the function's start
 
 abbrev stepping : tie.After-ends Inv-loop μ-loop → tie.After-step-in Inv-loop μ-loop
-stepping c = let lent = c .before .before .before .before in lent .before .before
+stepping c = let lent = c .before .before .before .before in lent .before .before .before
 
 abbrev testing : tie.After-step-in Inv-loop μ-loop → tie.In-loop Inv-loop μ-loop
 testing c = c .before .before .before .before
 
 abbrev started : tie.In-loop Inv-loop μ-loop → tie.Start Inv-loop μ-loop
-started c = let rights = c .before .before in rights .before .before .before
+started c =
+    let rights = c .before .before .before in
+    let lent = rights .before .before in lent .before .before
 
 -- the level before the step, and after it
 abbrev here : tie.After-step-in Inv-loop μ-loop → Level
@@ -53,7 +59,8 @@ here c =
 abbrev there : tie.After-step-in Inv-loop μ-loop → Level
 there c =
     let s = c .step-in in
-    levelOn (s .result .file) (started (testing c) .args .p) (s .result .ring) (s .last .1 .1 .0) (s .last .1 .1 .1 .0)
+    levelOn (s .result .file) (started (testing c) .args .p) (s .result .ring) (s .last .1 .1 .1 .1 .0)
+    (s .last .1 .1 .1 .1 .1 .0)
 
 -- the code's step is one of the level
 one : (c : tie.After-step-in Inv-loop μ-loop)
@@ -64,9 +71,23 @@ one c =
     let a = started tested .args in
     let s = c .step-in in
     let rights = c .before .before .before .on-ring .ensures
-    ∙ ap (λ (r : Rights). onRing r (l .ring)) (tested .before .before .level-rights .ensures .0) in
-    stepped (a .paging) (a .p) (l .ring) (l .file) (l .mem) (l .tables) (s .result) (s .last .1 .1 .0)
-    (s .last .1 .1 .1 .0) (l .inv .1 .0 .1) rights (s .ensures .1)
+    ∙ ap (λ (r : Rights). onRing r (l .ring)) (tested .before .before .before .level-rights .ensures .0) in
+    stepped (a .paging) (a .p) (l .ring) (l .file) (l .mem) (l .tables) (s .result) (s .last .1 .1 .1 .1 .0)
+    (s .last .1 .1 .1 .1 .1 .0) (l .inv .1 .0 .1) rights (s .ensures .1 .0)
+
+-- the page that it leaves is kept for the next
+page-left : (c : tie.After-step-in Inv-loop μ-loop)
+    → Kept (length (c .step-in .last .1 .1 .1 .1 .0))
+    (onRing (testing c .before .before .before .level-rights .result) (c .step-in .result .ring))
+    (c .step-in .result .page)
+    (c .step-in .last .1 .1 .1 .1 .1 .0)
+page-left c =
+    let s = c .step-in in
+    subst
+    (λ (r : Rights). Kept (length (s .last .1 .1 .1 .1 .0)) (onRing r (s .result .ring)) (s .result .page)
+    (s .last .1 .1 .1 .1 .1 .0))
+    (c .before .before .before .on-ring .ensures)
+    (s .ensures .1 .1 .1)
 
 fewer : (c : tie.In-loop Inv-loop μ-loop) → started c .args .n - c .before .loop .left < started c .args .n
 fewer c = omega (arith, c .loop-test .taken, c .before .loop .inv .1 .0 .0)
@@ -76,37 +97,57 @@ fewer c = omega (arith, c .loop-test .taken, c .before .loop .inv .1 .0 .0)
 level-rights-requires : tie.Need-level-rights-requires Inv-loop μ-loop
 level-rights-requires c κs = search needs
 
--- no step was taken
+no-page-requires : tie.Need-no-page-requires Inv-loop μ-loop
+no-page-requires c κs = search needs
+
+-- no step was taken, and no page is kept
 loop-holds : tie.Need-loop-holds Inv-loop μ-loop
 loop-holds c =
-    let a = c .before .before .before .args in
-    let rights = c .level-rights .ensures .0 in
+    let level = c .before .level-rights in
+    let a = let lent = c .before .before .before in lent .before .before .args in
+    let rights = level .ensures .0 in
     let start : Level = begun (a .f) (a .p) (a .mem .now) (a .tables .now) in
-    let here : Level = levelOn (a .f) (a .p) (c .level-rights .result .ring) (a .mem .now) (a .tables .now) in
+    let here : Level = levelOn (a .f) (a .p) (level .result .ring) (a .mem .now) (a .tables .now) in
     let own : start ≡ here =
     ap (λ (x : ℕ). begun (a .f) x (a .mem .now) (a .tables .now)) (sym (same-ring (a .p)))
     ∙ ap (λ (r : Rights). levelOn (a .f) (a .p) (r .ring) (a .mem .now) (a .tables .now)) (sym rights) in
     let none : 0 ≡ a .n - a .n = omega arith in
-    let ring : c .level-rights .result .ring < 4 = rw rights (omega arith) in (
+    let ring : level .result .ring < 4 = rw rights (omega arith) in (
       subst (λ (k : ℕ). Quiet (a .paging) (a .n) start k here) none
           (subst (Quiet (a .paging) (a .n) start 0) own (at-start (a .paging) (a .n) start)),
-      ((le-refl _, ring), (refl, refl)),
+      (
+        (le-refl _, ring),
+        (
+          (refl, refl),
+          none-kept (length (a .mem .now)) (level .result) (c .no-page .result) (a .tables .now) (c .no-page .ensures),
+        ),
+      ),
     )
 
 on-ring-requires : tie.Need-on-ring-requires Inv-loop μ-loop
 on-ring-requires c κs = search needs
 
--- the ring is one of a PCR, and the tables keep their size
+-- the ring is one of a PCR, the tables keep their size, and the page is kept
 step-in-requires : tie.Need-step-in-requires Inv-loop μ-loop
 step-in-requires c κs =
     let on = c .before .before .on-ring in
     let looping = c .before .before .before .before in
     let l = looping .loop in
-    let level = looping .before in
-    let start = level .before .before .before in (
-      subst (λ (q : Rights). (q .normal < 4) × (q .alternate < 4)) (sym (on .ensures))
-          (level .level-rights .ensures .1),
-      (subst (λ (q : Rights). q .ring < 4) (sym (on .ensures)) (l .inv .1 .0 .1), l .inv .1 .1 .1 ∙ start .pre .0),
+    let level = looping .before .before in
+    let start = let lent = level .before .before in lent .before .before in (
+      start .pre .0,
+      (
+        subst (λ (q : Rights). (q .normal < 4) × (q .alternate < 4)) (sym (on .ensures))
+            (level .level-rights .ensures .1),
+        (
+          subst (λ (q : Rights). q .ring < 4) (sym (on .ensures)) (l .inv .1 .0 .1),
+          (
+            l .inv .1 .1 .0 .1 ∙ start .pre .1 .0,
+            subst (λ (q : Rights). Kept (length (l .mem)) q (l .page) (l .tables)) (sym (on .ensures))
+                (l .inv .1 .1 .1),
+          ),
+        ),
+      ),
     )
 
 ends-requires : tie.Need-ends-requires Inv-loop μ-loop
@@ -124,13 +165,13 @@ burst-of-requires c κs = stepping (c .before) .step-in .ensures .0
 same-length : tie.Need-same-length Inv-loop μ-loop
 same-length c =
     let s = stepping (c .before .before) in
-    s .step-in .kept .1 .1 .0 ∙ testing s .before .loop .inv .1 .1 .0
+    s .step-in .kept .1 .1 .1 .1 .0 ∙ testing s .before .loop .inv .1 .1 .0 .0
 
 -- the tables keep theirs
 same-length-2 : tie.Need-same-length-2 Inv-loop μ-loop
 same-length-2 c =
     let s = stepping (c .before .before) in
-    s .step-in .kept .1 .1 .1 .0 ∙ testing s .before .loop .inv .1 .1 .1
+    s .step-in .kept .1 .1 .1 .1 .1 .0 ∙ testing s .before .loop .inv .1 .1 .0 .1
 
 -- the step's event ends the burst
 returns : tie.Need-returns Inv-loop μ-loop
@@ -141,8 +182,8 @@ returns c =
     let e : Event = s .step-in .result .event in
     let quiet = tested .before .loop .inv .0 in
     subst
-    (Answered (a .f) (a .p) (a .paging) (a .mem .now) (a .tables .now) (a .n) (s .step-in .last .1 .1 .0)
-    (s .step-in .last .1 .1 .1 .0))
+    (Answered (a .f) (a .p) (a .paging) (a .mem .now) (a .tables .now) (a .n) (s .step-in .last .1 .1 .1 .1 .0)
+    (s .step-in .last .1 .1 .1 .1 .1 .0))
     (sym (c .burst-of .ensures)) (
       fewer tested,
       (
@@ -174,8 +215,11 @@ loop-again c =
       (
         (less, s .step-in .ensures .0),
         (
-          s .step-in .kept .1 .1 .0 ∙ l .inv .1 .1 .0,
-          s .step-in .kept .1 .1 .1 .0 ∙ l .inv .1 .1 .1,
+          (
+            s .step-in .kept .1 .1 .1 .1 .0 ∙ l .inv .1 .1 .0 .0,
+            s .step-in .kept .1 .1 .1 .1 .1 .0 ∙ l .inv .1 .1 .0 .1,
+          ),
+          page-left s,
         ),
       ),
     )
@@ -197,8 +241,8 @@ same-length-4 c = search needs
 returns-2 : tie.Need-returns-2 Inv-loop μ-loop
 returns-2 c =
     let l = c .before .before .loop in
-    let level = c .before .before .before in
-    let start = level .before .before .before in
+    let level = c .before .before .before .before in
+    let start = let lent = level .before .before in lent .before .before in
     let a = start .args in
     let d : Level = levelOn (l .file) (a .p) (l .ring) (l .mem) (l .tables) in
     let all : a .n - l .left ≡ a .n = omega (arith, c .before .loop-test .left) in
@@ -207,7 +251,7 @@ returns-2 c =
     (l .inv .0) in
     subst (Answered (a .f) (a .p) (a .paging) (a .mem .now) (a .tables .now) (a .n) (l .mem) (l .tables))
     (sym (c .burst-of2 .ensures))
-    (omega (arith, start .pre .1), (all-quiet q (start .pre .1), λ z. the-only q (start .pre .1) z))
+    (omega (arith, start .pre .1 .1), (all-quiet q (start .pre .1 .1), λ z. the-only q (start .pre .1 .1) z))
 
 pub quiet-steps-spec : {M : Type 1} → statement M
 quiet-steps-spec =
@@ -216,6 +260,7 @@ quiet-steps-spec =
     Inv-loop
     μ-loop
     level-rights-requires
+    no-page-requires
     loop-holds
     on-ring-requires
     step-in-requires

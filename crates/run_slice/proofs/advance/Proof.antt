@@ -15,7 +15,9 @@ use Rattle.run_slice.proofs.advance.Tie as tie
 
 -- where the change of level was asked for: before it the function's start
 abbrev started : tie.After-change-due → tie.Start
-started c = let lent = c .before .before in lent .before .before .before .before
+started c =
+    let lent = c .before .before in
+    let known = lent .before .before .before in known .before .before
 
 change-due-requires : tie.Need-change-due-requires
 change-due-requires c κs = search needs
@@ -24,7 +26,7 @@ change-due-requires c κs = search needs
 changed-requires : tie.Need-changed-requires
 changed-requires c κs =
     let k = started (c .before .before .before) in
-    (k .pre .0 .level, (k .pre .0 .registers, k .pre .0 .controls))
+    (k .pre .1 .0 .level, (k .pre .1 .0 .registers, k .pre .1 .0 .controls))
 
 same-length : tie.Need-same-length
 same-length c = search needs
@@ -43,7 +45,7 @@ returns c =
     let due : dueAt (k .args .level) (k .args .c .control) ≡ true =
     sym (tested .before .change-due .ensures) ∙ tested .if1 .taken in
     advance-change s (k .args .mem .now) (k .args .tables .now) (k .args .n) (out .result) (out .last .1 .1 .0)
-    (out .last .1 .1 .1 .0) (k .pre .1 .1 .0) (k .pre .1 .1 .1) due (out .ensures .0)
+    (out .last .1 .1 .1 .0) (k .pre .1 .1 .1 .0) (k .pre .1 .1 .1 .1) due (out .ensures .0)
     (out .ensures .1 (k .args .mem .now) (k .args .tables .now))
 
 quiet-steps-requires : tie.Need-quiet-steps-requires
@@ -56,7 +58,7 @@ settled-requires c κs =
     let bursting = lent .before .before .before .before in
     let tested = bursting .before .before .before .before in
     let k = started (tested .before) in
-    (k .pre .0, bursting .quiet-steps .kept .1 .1 .1 .1 .0 ∙ k .pre .1 .0)
+    (k .pre .1 .0, bursting .quiet-steps .kept .1 .1 .1 .1 .1 .0 ∙ k .pre .1 .1 .0)
 
 same-length-3 : tie.Need-same-length-3
 same-length-3 c = search needs
@@ -84,17 +86,17 @@ returns-2 c =
     let stays : dueAt (k .args .level) (k .args .c .control) ≡ false = due ∙ tested .if1 .left in
     let burst = bursting .quiet-steps in
     let out = settling .settled in
-    let x : Executes (k .args .level) (k .args .c .control) = record { runs = k .pre .1 .1 .1; stays = stays } in
-    let after = burst .last .1 .1 .1 in
+    let x : Executes (k .args .level) (k .args .c .control) = record { runs = k .pre .1 .1 .1 .1; stays = stays } in
+    let after = burst .last .1 .1 .1 .1 in
     let left = out .last .1 .1 .1 in
     let r : Turn = advancedTurn (out .result) (left .0) (left .1 .0) (left .1 .1 .0) (left .1 .1 .1 .0) in
     let level : out .result .level < levelCount =
-    subst (λ (l : ℕ). l < levelCount) (sym (out .ensures .0 .0)) (k .pre .0 .level) in
+    subst (λ (l : ℕ). l < levelCount) (sym (out .ensures .0 .0)) (k .pre .1 .0 .level) in
     let before : out .result .before < k .args .n =
     subst (λ (b : ℕ). b < k .args .n) (sym (out .ensures .0 .1)) (burst .ensures .0) in (
       (level, before),
       advance-burst (k .args .level) (k .args .c) (k .args .regs .now) (k .args .pcrs .now) (k .args .mem .now)
-          (k .args .tables .now) (after .0) (after .1 .0) (k .args .n) (burst .result) (out .result) r x (k .pre .0)
+          (k .args .tables .now) (after .0) (after .1 .0) (k .args .n) (burst .result) (out .result) r x (k .pre .1 .0)
           (burst .ensures .1 .0)
           (burst .ensures .1 .1) (out .ensures .0 .1) (out .ensures .1),
     )

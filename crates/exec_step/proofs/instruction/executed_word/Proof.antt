@@ -27,9 +27,11 @@ decode-requires c κs = search needs
 instruction-stage-requires : tie.Need-instruction-stage-requires
 instruction-stage-requires c κs =
     let flags = c .before .before .before .before in
-    let start = flags .before .before .before .before in
-    let below = flags-below (start .args .r) (flags .before .get .result) (start .pre .0) in
-    (subst (λ (q : Rights). (q .normal < 4) × (q .alternate < 4)) (sym (flags .by-flags .ensures)) below, start .pre .1)
+    let start = let known = flags .before .before .before in known .before .before in
+    let below = flags-below (start .args .r) (flags .before .get .result) (start .pre .1 .0) in (
+      subst (λ (q : Rights). (q .normal < 4) × (q .alternate < 4)) (sym (flags .by-flags .ensures)) below,
+      start .pre .1 .1,
+    )
 
 same-length : tie.Need-same-length
 same-length c = search needs
@@ -42,7 +44,7 @@ returns c =
     let executed = c .before .before .before .before in
     let decoded = executed .before .before .before in
     let flags = decoded .before .before in
-    let start = flags .before .before .before .before in
+    let start = let known = flags .before .before .before in known .before .before in
     let a = start .args in
     let rights = flags .by-flags .ensures ∙ ap (byFlags (a .r)) (flags .before .get .ensures) in
     let i = decoded .decode .ensures ∙ ap decode (decoded .before .followed .ensures) in

@@ -1,8 +1,6 @@
 -- The old level's words are put back, and the new level's taken out of them.
 -- Assumes nothing.
 use mathlib.Core.Path.{refl, _∙_}
-use native.Mathlib.Omega.{arith}
-use lib.ListN.{length-set}
 use Rattle.levels.proofs.Changes.{changed-level}
 use borrow.Author.Needs.{needs}
 use Rattle.levels.proofs.change.changed.Statement.{statement}
@@ -11,33 +9,11 @@ use Rattle.levels.proofs.change.changed.Tie as tie
 highest-level-requires : tie.Need-highest-level-requires
 highest-level-requires c κs = search needs
 
-cast-j : tie.Need-cast-j
-cast-j c = search needs
+put-back-requires : tie.Need-put-back-requires
+put-back-requires c κs = search needs
 
-put-file-requires : tie.Need-put-file-requires
-put-file-requires c κs = search needs
-
-mul-pcrs : tie.Need-mul-pcrs
-mul-pcrs c = search needs
-
-slice-write-pcrs : tie.Need-slice-write-pcrs
-slice-write-pcrs c = search needs
-
-file-at-requires : tie.Need-file-at-requires
-file-at-requires c κs = search needs
-
-mul-t13 : tie.Need-mul-t13
-mul-t13 c = search needs
-
--- the new level's PCR
-slice-read-t19 : tie.Need-slice-read-t19
-slice-read-t19 c =
-    let read = c .before in
-    let put = read .before .before .before .before in
-    let chosen = put .before .before in
-    let control = chosen .before in
-    let start = control .before .before .before .before in
-    simp length-set (omega (arith, chosen .highest-level .ensures .1, start .pre))
+opened-requires : tie.Need-opened-requires
+opened-requires c κs = search needs
 
 same-length : tie.Need-same-length
 same-length c = search needs
@@ -45,20 +21,18 @@ same-length c = search needs
 same-length-2 : tie.Need-same-length-2
 same-length-2 c = search needs
 
--- the new level's words, and PVL
 returns : tie.Need-returns
 returns c =
-    let read = c .before in
-    let put = read .before .before .before .before in
-    let chosen = put .before .before in
-    let control = chosen .before in
-    let start = control .before .before .before .before in
+    let put = let lent = c .before .before .before .before in lent .before .before .before in
+    let chosen = put .before .before .before in
+    let start = let control = chosen .before in control .before .before .before in
     let a = start .args in
     let to = chosen .highest-level in
-    let length = put .put-file .kept .0 ∙ start .pre .1 .0 in
+    let back = put .put-back in
     let moved =
-    changed-level (a .level) (a .c) (a .regs .now) (a .pcrs .now) _ (to .ensures .1) _ _ length
-    (put .put-file .ensures) (read .file-at .ensures) (to .ensures .0) in
+    changed-level (a .level) (a .c) (a .regs .now) (a .pcrs .now) _ (to .ensures .1) (back .last .1 .1 .0)
+    (back .last .1 .1 .1 .0) (c .opened .result) (back .kept .1 .1 .0 ∙ start .pre .1 .0) (back .ensures .0)
+    (back .ensures .1) (c .opened .ensures) (to .ensures .0) in
     ((to .ensures .1, refl), moved)
 
 pub changed-spec : {M : Type 1} → statement M
@@ -66,13 +40,8 @@ changed-spec =
     tie.close
     (tie.spec
     highest-level-requires
-    cast-j
-    put-file-requires
-    mul-pcrs
-    slice-write-pcrs
-    file-at-requires
-    mul-t13
-    slice-read-t19
+    put-back-requires
+    opened-requires
     same-length
     same-length-2
     returns)

@@ -15,12 +15,19 @@ state-answer-requires c κs = search needs
 enum-told : tie.Need-enum-told
 enum-told c = search needs
 
--- a state in range, page tables of 256 words
+table-requires : tie.Need-table-requires
+table-requires c κs = search needs
+
+slice-aggregate-run : tie.Need-slice-aggregate-run
+slice-aggregate-run c = search needs
+
+-- the table of the classes; a state in range, page tables of 256 words
 run-requires : tie.Need-run-requires
 run-requires c κs =
-    let told = c .before .before in
+    let made = c .before .before .before in
+    let told = made .before in
     let asked = told .before .before in
-    run-needs _ _ _ (sym (asked .state-answer .ensures) ∙ told .enum-told .given .1)
+    (made .table .ensures .1, run-needs _ _ _ (sym (asked .state-answer .ensures) ∙ told .enum-told .given .1))
 
 enum-known-a : tie.Need-enum-known-a
 enum-known-a c = search needs
@@ -37,7 +44,7 @@ unfolding runCall
 returns c =
     let left = c .before .before .before in
     let running = left .before .before in
-    let told = running .before .before .before in
+    let told = let made = running .before .before .before .before in made .before in
     let asked = told .before .before in
     let entered = asked .before .before .before in
     let a = entered .before .before .args in
@@ -70,6 +77,8 @@ run-by-spec =
     (tie.spec
     state-answer-requires
     enum-told
+    table-requires
+    slice-aggregate-run
     run-requires
     enum-known-a
     same-length

@@ -1,5 +1,6 @@
 -- By the answer: a run from a state in range, or the refusal.
 -- Assumes nothing.
+use native.Mathlib.Omega.{arith}
 use mathlib.Core.Path.{refl, sym, ap, _∙_}
 use Rattle.isa.specs.Answers.{steppedCall, stepCallBy, stepCall}
 use Rattle.isa.specs.declared.answer.Answer.{Answer}
@@ -14,12 +15,17 @@ state-answer-requires c κs = search needs
 enum-told : tie.Need-enum-told
 enum-told c = search needs
 
--- a state in range, page tables of 256 words
+slice-aggregate-run : tie.Need-slice-aggregate-run
+slice-aggregate-run c = search needs
+
+-- an empty table; a state in range, page tables of 256 words
 run-requires : tie.Need-run-requires
 run-requires c κs =
-    let told = c .before .before in
-    let asked = told .before .before in
-    run-needs _ _ _ (sym (asked .state-answer .ensures) ∙ told .enum-told .given .1)
+    let told = c .before .before .before in
+    let asked = told .before .before in (
+      record { at = λ n h. absurd (omega (arith, h)) },
+      run-needs _ _ _ (sym (asked .state-answer .ensures) ∙ told .enum-told .given .1),
+    )
 
 enum-known-a : tie.Need-enum-known-a
 enum-known-a c = search needs
@@ -36,7 +42,7 @@ unfolding stepCall
 returns c =
     let left = c .before .before .before in
     let running = left .before .before in
-    let told = running .before .before .before in
+    let told = running .before .before .before .before in
     let asked = told .before .before in
     let entered = asked .before .before .before in
     let a = entered .before .before .args in
@@ -68,6 +74,7 @@ step-spec =
     (tie.spec
     state-answer-requires
     enum-told
+    slice-aggregate-run
     run-requires
     enum-known-a
     same-length

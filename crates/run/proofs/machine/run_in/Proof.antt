@@ -21,13 +21,15 @@ use Rattle.run.proofs.machine.run_in.Statement.{statement}
 use Rattle.run.proofs.machine.run_in.Tie as tie
 
 abbrev Inv-loop : tie.InvT-loop
-Inv-loop start regs₀ pcrs₀ mem₀ tables₀ n first level₀ core₀ steps₀ gave₀ regs pcrs mem tables level core steps gave =
+Inv-loop classes start regs₀ pcrs₀ mem₀ tables₀ n first level₀ core₀ steps₀ gave₀ regs pcrs mem tables level core steps
+    gave =
     Going first n (pack start core₀ regs₀ pcrs₀) mem₀ tables₀ steps (turn (pack level core regs pcrs) gave mem tables)
     × ((level < levelCount) × ((length regs ≡ length regs₀)
     × ((length pcrs ≡ length pcrs₀) × ((length mem ≡ length mem₀) × (length tables ≡ length tables₀)))))
 
 abbrev μ-loop : tie.MeasureT-loop
-μ-loop start regs₀ pcrs₀ mem₀ tables₀ n first level₀ core₀ steps₀ gave₀ regs pcrs mem tables level core steps gave =
+μ-loop classes start regs₀ pcrs₀ mem₀ tables₀ n first level₀ core₀ steps₀ gave₀ regs pcrs mem tables level core steps
+    gave =
     n - steps
 
 -- ---- places: the call of advance before what it lent comes back; the test before the call; the loop; the start
@@ -48,7 +50,7 @@ abbrev looping : tie.After-advance Inv-loop μ-loop → tie.In-loop Inv-loop μ-
 looping c = testing (asking c .before)
 
 abbrev started : tie.At-loop Inv-loop μ-loop → tie.Start Inv-loop μ-loop
-started c = let lent = c .before .before .before .before in lent .before
+started c = let lent = c .before .before .before .before in lent .before .before
 
 -- what a return has to answer to
 abbrev AnsweredFrom : tie.At-loop Inv-loop μ-loop → List ℕ → List ℕ → List ℕ → List ℕ → LoopEnd → Type 0
@@ -59,7 +61,7 @@ AnsweredFrom c =
 -- the machine after advance; before it no change of level ended the run
 abbrev advanced : tie.After-advance Inv-loop μ-loop → Turn
 advanced c =
-    let left = c .advance .last .1 .1 in
+    let left = c .advance .last .1 .1 .1 in
     advancedTurn (c .advance .result) (left .0) (left .1 .0) (left .1 .1 .0) (left .1 .1 .1 .0)
 
 stays : (c : tie.After-advance Inv-loop μ-loop)
@@ -73,10 +75,10 @@ stays c = sym (asking c .before .level-ends .ensures) ∙ asking c .if2 .left
 -- no step was taken
 loop-holds : tie.Need-loop-holds Inv-loop μ-loop
 loop-holds c =
-    let k = c .before .before .before .before in
+    let k = let lent = c .before .before .before .before in lent .before in
     let a = k .args in (
       at-start (a .first) (a .n) (pack (a .start) (a .c) (a .regs .now) (a .pcrs .now)) (a .mem .now) (a .tables .now),
-      (k .pre .0, (refl, (refl, (refl, refl)))),
+      (k .pre .1 .0, (refl, (refl, (refl, refl)))),
     )
 
 ended-requires : tie.Need-ended-requires Inv-loop μ-loop
@@ -143,12 +145,15 @@ advance-requires c κs =
     let l = tested .before .loop in
     let same = l .inv .1 .1 in
     let more : 0 < start .args .n - l .steps = omega (arith, tested .loop-test .taken) in (
-      record {
-        level = l .inv .1 .0;
-        registers = same .0 ∙ start .pre .1 .0 .0;
-        controls = same .1 .0 ∙ start .pre .1 .0 .1;
-      },
-      (same .1 .1 .1 ∙ start .pre .1 .1, (more, ne-eqb _ _ (asked .before .before .if1 .left))),
+      start .pre .0,
+      (
+        record {
+          level = l .inv .1 .0;
+          registers = same .0 ∙ start .pre .1 .1 .0 .0;
+          controls = same .1 .0 ∙ start .pre .1 .1 .0 .1;
+        },
+        (same .1 .1 .1 ∙ start .pre .1 .1 .1, (more, ne-eqb _ _ (asked .before .before .if1 .left))),
+      ),
     )
 
 -- the steps taken are at most those asked for
@@ -175,25 +180,25 @@ ended-requires-3 c κs = search needs
 same-length-9 : tie.Need-same-length-9 Inv-loop μ-loop
 same-length-9 c =
     let out = advancing (c .before .before .before) in
-    out .advance .kept .1 .1 .0 ∙ looping out .before .loop .inv .1 .1 .0
+    out .advance .kept .1 .1 .1 .0 ∙ looping out .before .loop .inv .1 .1 .0
 
 -- .. the PCRs
 same-length-10 : tie.Need-same-length-10 Inv-loop μ-loop
 same-length-10 c =
     let out = advancing (c .before .before .before) in
-    out .advance .kept .1 .1 .1 .0 ∙ looping out .before .loop .inv .1 .1 .1 .0
+    out .advance .kept .1 .1 .1 .1 .0 ∙ looping out .before .loop .inv .1 .1 .1 .0
 
 -- .. memory
 same-length-11 : tie.Need-same-length-11 Inv-loop μ-loop
 same-length-11 c =
     let out = advancing (c .before .before .before) in
-    out .advance .kept .1 .1 .1 .1 .0 ∙ looping out .before .loop .inv .1 .1 .1 .1 .0
+    out .advance .kept .1 .1 .1 .1 .1 .0 ∙ looping out .before .loop .inv .1 .1 .1 .1 .0
 
 -- .. the tables
 same-length-12 : tie.Need-same-length-12 Inv-loop μ-loop
 same-length-12 c =
     let out = advancing (c .before .before .before) in
-    out .advance .kept .1 .1 .1 .1 .1 .0 ∙ looping out .before .loop .inv .1 .1 .1 .1 .1
+    out .advance .kept .1 .1 .1 .1 .1 .1 .0 ∙ looping out .before .loop .inv .1 .1 .1 .1 .1
 
 -- the last step gave an interrupt
 returns-3 : tie.Need-returns-3 Inv-loop μ-loop
@@ -203,7 +208,7 @@ returns-3 c =
     let q = advanced out in
     let given : (started (tested .before) .args .first && not (eqb (q .gave) 0)) ≡ true =
     sym (c .before .before .interrupt-ends .ensures) ∙ c .before .if3 .taken in
-    let left = out .advance .last .1 .1 in
+    let left = out .advance .last .1 .1 .1 in
     subst (AnsweredFrom (tested .before) (left .0) (left .1 .0) (left .1 .1 .0) (left .1 .1 .1 .0))
     (sym (c .ended3 .ensures)) (
       out .advance .ensures .0 .0,
@@ -223,7 +228,7 @@ loop-again c =
     let silent : (started (tested .before) .args .first && not (eqb (q .gave) 0)) ≡ false =
     sym (c .before .interrupt-ends .ensures) ∙ c .if3 .left in
     let same = tested .before .loop .inv .1 .1 in
-    let kept = out .advance .kept .1 .1 in (
+    let kept = out .advance .kept .1 .1 .1 in (
       goes-on (tested .before .loop .inv .0) (out .advance .result) q (tested .loop-test .taken)
           (out .advance .ensures .0 .1) (out .advance .ensures .1 .0) (out .advance .ensures .1 .1) (stays out) silent,
       (

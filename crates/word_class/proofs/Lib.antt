@@ -1,0 +1,4 @@
+-- Laws behind the functions' proofs.
+pub mod Codes
+pub mod Classes
+pub mod Entries

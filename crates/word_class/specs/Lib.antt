@@ -1,0 +1,2 @@
+-- The classes of instruction words.
+pub mod Classes
