@@ -9,12 +9,14 @@ use std::time::Instant;
 
 const USAGE: &str = "\
 usage: bench [STEPS]
-       bench ours STEPS
-       bench rust STEPS
+       bench ours STEPS [calls]
+       bench rust STEPS [calls]
 
 Times the proved engine (ours) and the second engine (Rust) on mixed.octal, 30,000,000 steps a
 repetition unless said otherwise. The last line is 'ratio R', the median of our run over that of
-Rust's. With 'ours' or 'rust' it only runs that engine, for a profiler.";
+Rust's. With 'ours' or 'rust' it only runs that engine, for a profiler; with 'calls' by as many
+calls of the step. Built with the feature 'inlined' the second engine has forced inlining on the
+path of its step.";
 
 const REPETITIONS: usize = 5;
 /// A repetition is so many slices of each engine, in turn, so that what disturbs the machine disturbs both.
@@ -218,9 +220,10 @@ fn main() -> ExitCode {
             return Ok(());
         };
         let steps = args.number("STEPS", 1..=u64::MAX)?;
+        let single = args.next_is("calls");
         args.end()?;
         let p = nd110::Register::P as usize;
-        println!("{}", engine(64, steps, false).words[p]);
+        println!("{}", engine(64, steps, single).words[p]);
         Ok(())
     })
 }

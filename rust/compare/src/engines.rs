@@ -76,8 +76,8 @@ impl Both {
         Err((format!("{ours:?}"), format!("{theirs:?}")))
     }
 
-    /// A run of both, through or to the first interrupt.
-    pub fn run(&mut self, steps: u64, first: bool) -> Result<(), Answers> {
+    /// A run of both, through or to the first interrupt: the steps taken, or none where both refuse.
+    pub fn run(&mut self, steps: u64, first: bool) -> Result<u64, Answers> {
         let run = if first {
             nd110::run_to_interrupt
         } else {
@@ -103,7 +103,8 @@ impl Both {
         let theirs = theirs
             .map(|(n, why)| (n, reason(why)))
             .map_err(|r| r.number());
-        same(format!("{ours:?}"), format!("{theirs:?}"))
+        same(format!("{ours:?}"), format!("{theirs:?}"))?;
+        Ok(ours.map_or(0, |(n, _)| n))
     }
 
     pub fn raise(&mut self, level: u16) -> Result<(), Answers> {

@@ -1,10 +1,11 @@
 //! The proved engine, as the static library, against the second engine: random machines and programs, whole states
-//! compared after every step.
+//! compared after every step, or after runs of some steps each.
 
 mod programs;
 mod report;
 
 use compare::engines::{Answers, Both};
+use report::Taken;
 use second::random::Random;
 use second::vectors::Start;
 use std::process::ExitCode;
@@ -13,12 +14,14 @@ use std::time::{Duration, Instant};
 const USAGE: &str = "\
 usage: compare SEED STEPS
 
-Follows the proved engine and the second engine on random machines and programs, and compares whole
-states after every step. The same seed gives the same machines. The last line is
-'N steps compared, M differences'.";
+Follows the proved engine and the second engine on random machines and programs, half of them step
+by step and half in runs of some steps each, and compares whole states after every step or run. The
+same seed gives the same machines. The last line is 'N steps compared, M differences'.";
 
 /// Steps that a program is followed.
 const LENGTH: u64 = 64;
+/// Most steps of one run of a program that is followed in runs.
+const RUN: u64 = 24;
 
 struct Tally {
     steps: u64,
@@ -46,30 +49,47 @@ impl Tally {
         }
     }
 
-    /// Step by step, with what a host does in between. A machine that stays as it is ends it.
-    fn follow(&mut self, random: &mut Random, start: &Start) {
+    /// Step by step, or in runs of some steps each, with what a host does in between. What an engine keeps from one
+    /// step of a run to the next shows in runs alone. A step that changes nothing ends it.
+    fn follow(&mut self, random: &mut Random, start: &Start, in_runs: bool) {
         let mut both = Both::new(start);
-        let mut between = Vec::new();
-        for _ in 0..LENGTH {
-            let before = both.ours;
-            let answers = both.step();
-            self.steps += 1;
-            if answers.is_err() || !both.equal() {
-                self.differ("a step", || report::print(&replay(start, &between)));
-                return;
-            }
-            if both.ours == before {
-                return;
-            }
-            let host = Host::draw(random);
-            if let Host::Raise(level) = host {
-                let answers = both.raise(level);
-                self.note("raise", answers, &both);
+        let mut left = LENGTH;
+        while left > 0 {
+            let before = both.theirs.clone();
+            let (taken, answers) = if in_runs {
+                let steps = 1 + random.below(RUN.min(left));
+                (Taken::Run(steps), both.run(steps, false))
             } else {
-                host.act(&mut both.theirs);
+                (Taken::Step, both.step().map(|()| 1))
+            };
+            let steps = *answers.as_ref().unwrap_or(&1);
+            self.steps += steps;
+            if answers.is_err() || !both.equal() {
+                self.differ("steps", || report::print(&before, taken));
+                return;
+            }
+            if steps == 0 || !in_runs && both.theirs == before {
+                return;
+            }
+            left -= steps;
+            self.host(random, &mut both);
+        }
+    }
+
+    /// What a host does between two steps: nothing, a device's interrupt, or a register of the running level set.
+    fn host(&mut self, random: &mut Random, both: &mut Both) {
+        match random.below(16) {
+            0 => {
+                let answers = both.raise(random.below(17) as u16);
+                self.note("raise", answers, both);
+            }
+            1..=4 => {
+                let register = random.pick(&[1, 3, 4, 5, 5, 6, 7]);
+                let level = usize::from(both.theirs.state.level);
+                both.theirs.state.files[level][register] = programs::operand(random);
                 both.ours.0 = both.theirs.state.to_words();
             }
-            between.push(host);
+            _ => {}
         }
     }
 
@@ -80,7 +100,7 @@ impl Tally {
             let answers = both.run(random.below(2 * LENGTH), first);
             self.note(
                 if first { "run to interrupt" } else { "run" },
-                answers,
+                answers.map(|_| ()),
                 &both,
             );
         }
@@ -114,48 +134,6 @@ impl Tally {
     }
 }
 
-/// What a host does between two steps: nothing, a device's interrupt, or a register of the running level set.
-enum Host {
-    Nothing,
-    Raise(u16),
-    Set(usize, u16),
-}
-
-impl Host {
-    fn draw(random: &mut Random) -> Host {
-        match random.below(16) {
-            0 => Host::Raise(random.below(17) as u16),
-            1..=4 => Host::Set(
-                random.pick(&[1, 3, 4, 5, 5, 6, 7]),
-                programs::operand(random),
-            ),
-            _ => Host::Nothing,
-        }
-    }
-
-    fn act(&self, start: &mut Start) {
-        match *self {
-            Host::Nothing => {}
-            Host::Raise(level) => {
-                let _ = second::raise(&mut start.state, &start.memory, &start.tables, level);
-            }
-            Host::Set(number, word) => {
-                start.state.files[usize::from(start.state.level)][number] = word;
-            }
-        }
-    }
-}
-
-/// The machine after so many steps, with what the host did after each.
-fn replay(start: &Start, between: &[Host]) -> Start {
-    let mut here = start.clone();
-    for host in between {
-        let _ = second::step(&mut here.state, &mut here.memory, &mut here.tables);
-        host.act(&mut here);
-    }
-    here
-}
-
 fn main() -> ExitCode {
     cli::run(USAGE, |mut args| {
         let seed = args.number("SEED", 0..=u64::MAX)?;
@@ -170,7 +148,8 @@ fn main() -> ExitCode {
         let mut told = Instant::now();
         while tally.steps < steps {
             let start = programs::start(&mut random, &pool);
-            tally.follow(&mut random, &start);
+            let in_runs = random.one_in(2);
+            tally.follow(&mut random, &start, in_runs);
             tally.operations(&mut random, &start);
             if told.elapsed() > Duration::from_secs(10) {
                 eprintln!(

@@ -2,7 +2,7 @@
 
 use second::random::Random;
 use second::vectors::{self, Start};
-use second::{PAGE, next_word};
+use second::{PAGE, Reg, next_word};
 
 /// Instruction words of every kind: those that the generator of one-step cases has fetched.
 pub fn pool(random: &mut Random) -> Vec<u16> {
@@ -40,6 +40,9 @@ pub fn start(random: &mut Random, pool: &[u16]) -> Start {
     if !random.one_in(4) {
         more_pages(random, &mut start);
     }
+    if random.one_in(4) {
+        window(random, &mut start);
+    }
     for file in &mut start.state.files {
         for register in &mut file[1..] {
             if *register == 0 && random.one_in(2) {
@@ -70,6 +73,21 @@ fn more_pages(random: &mut Random, start: &mut Start) {
             _ => ring,
         };
         *entry = permits << 13 | of_ring << 9 | random.below(pages) as u16;
+    }
+}
+
+/// The running level on ring 3, with B and X in the window: its stores change page tables, those of its own code among
+/// them. Half of all entries are of ring 3, so that it stays there.
+fn window(random: &mut Random, start: &mut Start) {
+    let level = usize::from(start.state.level);
+    start.state.pcr[level] |= 3;
+    for register in [Reg::B, Reg::X] {
+        start.state.files[level][register as usize] = 0o177400 + random.below(256) as u16;
+    }
+    for entry in &mut start.tables {
+        if random.one_in(2) {
+            *entry |= 3 << 9;
+        }
     }
 }
 

@@ -1,13 +1,29 @@
 //! The first difference: as small an image as still shows it, the instruction, and the words that differ.
 
-use compare::engines::Both;
+use compare::engines::{Answers, Both};
 use second::vectors::Start;
 use second::{PAGE, State, disassemble, next_word};
 
-/// Whether one step from here differs.
-pub fn differs(start: &Start) -> bool {
+/// Steps of both from here: a call of the step, or a run of so many.
+#[derive(Clone, Copy)]
+pub enum Taken {
+    Step,
+    Run(u64),
+}
+
+impl Taken {
+    fn by(self, both: &mut Both) -> Result<(), Answers> {
+        match self {
+            Taken::Step => both.step(),
+            Taken::Run(steps) => both.run(steps, false).map(|_| ()),
+        }
+    }
+}
+
+/// Whether these steps from here differ.
+pub fn differs(start: &Start, taken: Taken) -> bool {
     let mut both = Both::new(start);
-    both.step().is_err() || !both.equal()
+    taken.by(&mut both).is_err() || !both.equal()
 }
 
 /// Words set to 0, in blocks and then one by one, as long as the predicate holds.
@@ -103,10 +119,13 @@ fn image(start: &Start) -> Vec<u16> {
     }
 }
 
-/// Prints a start from which one step differs.
-pub fn print(start: &Start) {
+/// Prints a start from which these steps differ.
+pub fn print(start: &Start, taken: Taken) {
     let mut start = start.clone();
-    shrink(&mut start, differs);
+    shrink(&mut start, |smaller| differs(smaller, taken));
+    if let Taken::Run(steps) = taken {
+        println!("in a run of {steps} steps");
+    }
     println!(
         "difference, with {} pages, from the image (octal words)",
         start.memory.len() / PAGE
@@ -125,7 +144,7 @@ pub fn print(start: &Start) {
         None => println!("level {} at {p:06o}: no fetch", start.state.level),
     }
     let mut both = Both::new(&start);
-    if let Err((ours, theirs)) = both.step() {
+    if let Err((ours, theirs)) = taken.by(&mut both) {
         println!("answer: proved {ours}, second {theirs}");
     }
     for line in both.differing() {
