@@ -46,8 +46,8 @@ none-kept words r k t e h =
 
 -- ---- a fetch from the kept page
 
-module _ {words : ℕ} {r : Rights} {k : Page} {t : List ℕ} (h : Rests words r k t) (a : ℕ) (same-page : a / 1024 ≡ k .number)
-    (low : k .number < 64)
+module _ {words : ℕ} {r : Rights} {k : Page} {t : List ℕ} (h : Rests words r k t) (a : ℕ)
+    (same-page : a / 1024 ≡ k .number) (low : k .number < 64)
   where
     slot : slotOf (r .normal) a ≡ r .normal * 64 + k .number
     slot = omega (arith, same-page, low)

@@ -30,7 +30,7 @@ pub const INTERNAL_LEVEL: u16 = 14;
 
 pub const STATUS_RANGE: u16 = 256;
 
-// Lent words: a page, the largest memory, the page tables and one of them; the first address of the page tables' window.
+// Lent words: a page, the largest memory, the page tables, one of them; the first address of the tables' window.
 pub const PAGE_WORDS: usize = 1024;
 
 pub const LARGEST_MEMORY: usize = 524288;

@@ -203,9 +203,10 @@ agrees zero i t = true
 agrees (suc n) i [] = false
 agrees (suc n) i (c ∷ t) = eqb c (classOf i) && agrees n (suc i) t
 
--- .. of one with an entry for each value of the top ten bits
+-- the values of the top ten bits
 abbrev pub sortedValues : ℕ
 sortedValues = 1024
 
+-- the test of a table with an entry for each of them
 abbrev pub allAgree : List ℕ → Bool
 allAgree t = agrees sortedValues 0 t

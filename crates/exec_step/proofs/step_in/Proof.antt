@@ -118,8 +118,8 @@ returns c =
     ∙ passes-zero (g .place) (tested .fault-of .ensures) (passed on .if1 .taken) in
     let page = (simp p at (fetching tested .fetch .ensures .1 .0))
     ∙ ap (pageNext (length (a .mem .now)) rights (a .k) (reg (a .f) P)) (found .place) in
-    let kept = word-keeps (length (a .mem .now)) (a .f) rights (g .page) (g .word) _ _ (e .result) _ _ (start .pre .1 .0)
-    word (fetching tested .fetch .ensures .1 .1) in (
+    let kept = word-keeps (length (a .mem .now)) (a .f) rights (g .page) (g .word) _ _ (e .result) _ _
+    (start .pre .1 .0) word (fetching tested .fetch .ensures .1 .1) in (
       small,
       (
         step-passed (fetched tested) (g .ring) (g .word) (g .page) (e .result) _ _ (passed on .if1 .taken)
