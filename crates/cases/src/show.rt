@@ -80,7 +80,8 @@ pub(crate) fn show(told: Told, mem: &[u16], tables: &[u16]) {
     let s = told.state;
     let regs = s.regs;
     let pcr = s.pcr;
-    let scalars = image_write::scalars_of(s);
+    let k = s.control;
+    let scalars = image_write::scalars_of(s.level, k);
     io::print_decimal(1, told.refusal);
     number(told.first);
     number(told.second);

@@ -1,9 +1,12 @@
 // Tests of what callers hand in: the sizes of lent words, and the ranges of a state.
 ghost use mathlib.Core.Path.{_≡_};
 ghost use mathlib.Core.Bool.{true, _&&_};
+ghost use Prim.Native.Nat.{_*_, _<_};
 ghost use lib.Dec.{ltb};
+ghost use lib.ListN.{length};
 ghost use Rattle.isa.specs.Machine.{memorySize, sizesFit, interruptBits, pcrBits, pgsBits, controlInRange};
-ghost use Rattle.isa.specs.Machine.{allPcrBits, flagsFit, inRange};
+ghost use Rattle.isa.specs.Machine.{levelCount, registerWords, allPcrBits, flagsFit, inRange, stateWith};
+ghost use Rattle.checks.specs.Bits.{bitsOf};
 ghost use Rattle.isa.specs.Answers.{stateAnswer, deviceLevel, raised};
 use arithmetic::bits::with_bit;
 use isa::answer::Answer;
@@ -13,7 +16,6 @@ use isa::constant::LARGEST_MEMORY;
 use isa::constant::LEVEL_COUNT;
 use isa::constant::LEVELS;
 use isa::constant::PAGE_WORDS;
-use isa::constant::REGISTER_WORDS;
 use isa::constant::STATUS_RANGE;
 use isa::constant::TABLE_WORDS;
 use isa::machine::Control;
@@ -131,79 +133,112 @@ fn control_in_range(c: Control) -> bool
     false
 }
 
-// Every PCR.
-fn all_pcr_bits(p: [u16; LEVEL_COUNT]) -> bool
-    ensures { λ r. ⌜ r ≡ allPcrBits p ⌝ }
+// All bits of sixteen words that stand so far apart, the first of them in front.
+fn bits_of(words: &[u16], apart: usize) -> u16
+    requires { ⌜ 0 < apart ⌝ }
+    requires { ⌜ length (now words) ≡ levelCount * apart ⌝ }
+    ensures { λ r. ⌜ r ≡ bitsOf levelCount apart (now (words .entry)) ⌝ }
 {
+    let mut bits: u16 = 0;
     let mut i: usize = 0;
     while i < LEVEL_COUNT {
-        if pcr_bits(p[i]) {
-            i += 1;
-        } else {
-            return false;
-        }
-    }
-    true
-}
-
-// Every STS.
-fn flags_fit(b: [u16; REGISTER_WORDS]) -> bool
-    ensures { λ r. ⌜ r ≡ flagsFit 16 b ⌝ }
-{
-    let mut i: usize = 0;
-    while i < LEVEL_COUNT {
-        if STATUS_RANGE <= b[i * FILE_SIZE] {
-            return false;
-        }
+        bits = bits | words[i * apart];
         i += 1;
     }
-    true
+    bits
+}
+
+// Every PCR: a bit that is not used is in one of them if it is among the bits of all.
+fn all_pcr_bits(pcrs: &[u16]) -> bool
+    requires { ⌜ length (now pcrs) ≡ levelCount ⌝ }
+    ensures { λ r. ⌜ r ≡ allPcrBits (now (pcrs .entry)) ⌝ }
+{
+    pcr_bits(bits_of(pcrs, 1))
+}
+
+// Every STS, in the same way.
+fn flags_fit(regs: &[u16]) -> bool
+    requires { ⌜ length (now regs) ≡ registerWords ⌝ }
+    ensures { λ r. ⌜ r ≡ flagsFit levelCount (now (regs .entry)) ⌝ }
+{
+    bits_of(regs, FILE_SIZE) < STATUS_RANGE
 }
 
 // PCRs and registers.
-fn arrays_in_range(s: State) -> bool
-    ensures { λ r. ⌜ r ≡ (allPcrBits (s .pcr) && flagsFit 16 (s .regs)) ⌝ }
+fn arrays_in_range(regs: &[u16], pcrs: &[u16]) -> bool
+    requires { ⌜ length (now regs) ≡ registerWords ⌝ }
+    requires { ⌜ length (now pcrs) ≡ levelCount ⌝ }
+    ensures { λ r. ⌜ r ≡ (allPcrBits (now (pcrs .entry)) && flagsFit levelCount (now (regs .entry))) ⌝ }
 {
-    let p = s.pcr;
-    let b = s.regs;
-    if all_pcr_bits(p) {
-        return flags_fit(b);
+    if all_pcr_bits(pcrs) {
+        return flags_fit(regs);
     }
     false
 }
 
 // All but the level.
-fn words_in_range(s: State) -> bool
-    ensures { λ r. ⌜ r ≡ (controlInRange (s .control) && allPcrBits (s .pcr) && flagsFit 16 (s .regs)) ⌝ }
+fn words_in_range(k: Control, regs: &[u16], pcrs: &[u16]) -> bool
+    requires { ⌜ length (now regs) ≡ registerWords ⌝ }
+    requires { ⌜ length (now pcrs) ≡ levelCount ⌝ }
+    ensures { λ r. ⌜ r ≡ (controlInRange k && allPcrBits (now (pcrs .entry))
+        && flagsFit levelCount (now (regs .entry))) ⌝ }
 {
-    let c = s.control;
-    if control_in_range(c) {
-        return arrays_in_range(s);
+    if control_in_range(k) {
+        return arrays_in_range(regs, pcrs);
     }
     false
 }
 
-// Whether a state is in the ranges of document 01.
+// Whether a state's parts are in the ranges of document 01. Registers and PCRs have one lifetime, as two fields of one
+// state are lent for them.
+fn parts_in_range<'a>(level: u16, k: Control, regs: &'a [u16], pcrs: &'a [u16]) -> bool
+    requires { ⌜ length (now regs) ≡ registerWords ⌝ }
+    requires { ⌜ length (now pcrs) ≡ levelCount ⌝ }
+    ensures { λ r. ⌜ r ≡ inRange (stateWith level k (now (regs .entry)) (now (pcrs .entry))) ⌝ }
+{
+    if level < LEVELS {
+        return words_in_range(k, regs, pcrs);
+    }
+    false
+}
+
+// .. of a state by value.
 pub fn in_range(s: State) -> bool
     ensures { λ r. ⌜ r ≡ inRange s ⌝ }
 {
-    if s.level < LEVELS {
-        return words_in_range(s);
-    }
-    false
+    let k = s.control;
+    parts_in_range(s.level, k, &s.regs, &s.pcr)
 }
 
-// Refusal 1, sizes; refusal 2, a state out of range.
-pub fn state_answer(s: State, mem: &[u16], tables: &[u16]) -> Answer
-    ensures { λ r. ⌜ r ≡ stateAnswer s (now (mem .entry)) (now (tables .entry)) ⌝ }
+// Refusal 1, sizes; refusal 2, a state out of range. Of a state's parts.
+pub fn parts_answer<'a>(
+    level: u16,
+    k: Control,
+    regs: &'a [u16],
+    pcrs: &'a [u16],
+    mem: &[u16],
+    tables: &[u16],
+) -> Answer
+    requires { ⌜ length (now regs) ≡ registerWords ⌝ }
+    requires { ⌜ length (now pcrs) ≡ levelCount ⌝ }
+    ensures { λ r. ⌜ r ≡ stateAnswer (stateWith level k (now (regs .entry)) (now (pcrs .entry))) (now (mem .entry))
+        (now (tables .entry)) ⌝ }
 {
     if sizes_fit(mem, tables) {
-        if in_range(s) {
+        if parts_in_range(level, k, regs, pcrs) {
             return Answer::Done;
         }
         return Answer::Refused(Refusal::State);
     }
     Answer::Refused(Refusal::Sizes)
+}
+
+// .. and of a state by value.
+pub fn state_answer(s: State, mem: &[u16], tables: &[u16]) -> Answer
+    ensures { λ r. ⌜ r ≡ stateAnswer s (now (mem .entry)) (now (tables .entry)) ⌝ }
+{
+    let k = s.control;
+    parts_answer(s.level, k, &s.regs, &s.pcr, mem, tables)
 }
 
 // The levels that devices raise.

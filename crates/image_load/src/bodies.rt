@@ -1,6 +1,7 @@
 // The bodies of an image, put into the words of a kind.
 ghost use mathlib.Core.Path.{_≡_};
 ghost use mathlib.Core.Bool.{cond};
+ghost use mathlib.Core.List.{[]};
 ghost use Prim.Native.Nat.{_+_, _≤_};
 ghost use lib.ListN.{length, getD, take, drop};
 ghost use lib.Seq.{paste};
@@ -72,13 +73,12 @@ pub type RegisterWords = [u16; REGISTER_WORDS];
 
 pub type ControlWords = [u16; CONTROL_COUNT];
 
-// The state of registers and control words in image order.
-pub fn state_of(regs: RegisterWords, words: ControlWords) -> State
-    ensures { λ s. ⌜ s ≡ stateOf regs words ⌝ }
+// Of the control words in image order: 1 to 9.
+pub fn control_of(words: &[u16]) -> Control
+    requires { ⌜ length (now words) ≡ controlCount ⌝ }
+    ensures { λ k. ⌜ k ≡ stateOf [] (now (words .entry)) .control ⌝ }
 {
-    let mut pcrs = [0u16; LEVEL_COUNT];
-    copy(&mut pcrs, 0, &words, FIRST_PCR, LEVEL_COUNT);
-    let c = Control {
+    Control {
         interrupts: words[1],
         paging: words[2],
         stopped: words[3],
@@ -88,11 +88,31 @@ pub fn state_of(regs: RegisterWords, words: ControlWords) -> State
         iid: words[7],
         iie: words[8],
         pgs: words[9],
-    };
+    }
+}
+
+// .. and the PCRs.
+pub type Pcrs = [u16; LEVEL_COUNT];
+
+pub fn pcrs_of(words: &[u16]) -> Pcrs
+    requires { ⌜ length (now words) ≡ controlCount ⌝ }
+    ensures { λ p. ⌜ p ≡ stateOf [] (now (words .entry)) .pcr ⌝ }
+{
+    let mut pcrs = [0u16; LEVEL_COUNT];
+    copy(&mut pcrs, 0, words, FIRST_PCR, LEVEL_COUNT);
+    pcrs
+}
+
+// The state of registers and control words in image order.
+pub fn state_of(regs: RegisterWords, words: ControlWords) -> State
+    ensures { λ s. ⌜ s ≡ stateOf regs words ⌝ }
+{
+    let k = control_of(&words);
+    let pcrs = pcrs_of(&words);
     State {
         regs: regs,
         level: words[0],
-        control: c,
+        control: k,
         pcr: pcrs,
     }
 }

@@ -32,22 +32,6 @@ memory-put w m o c d e n hw hm hc hd he =
     let f : d ≡ w ++ drop 21 o = hd ∙ ap (λ (x : List ℕ). paste o 0 x 21) hc ∙ joined [] w o o 0 21 refl hw refl in
     he ∙ joined w m o d 21 n hw hm f ∙ ap (λ (x : ℕ). (w ++ m) ++ drop x o) q
 
--- registers, control words 0 to 9, PCRs
-pub state-put : (o r j k p d e f : List ℕ) (at : ℕ) → at ≤ length o → length r ≡ registerWords → length k ≡ 10
-    → length p ≡ levelCount → j ≡ k
-    → d ≡ paste o at r 128
-    → e ≡ paste d (at + 128) j 10
-    → f ≡ paste e (at + 138) p 16
-    → f ≡ paste o at (r ++ (k ++ p)) stateWords
-state-put o r j k p d e f at h hr hk hp hj hd he hf =
-    let q : length (r ++ k) ≡ 138 = length-append r k ∙ omega (arith, hr, hk) in
-    let g : e ≡ paste o at (r ++ k) 138 =
-    he ∙ (λ i. paste (hd i) (at + 128) (hj i) 10) ∙ paste-join o r k at 128 10 h hr hk in
-    hf
-    ∙ ap (λ (x : List ℕ). paste x (at + 138) p 16) g
-    ∙ paste-join o (r ++ k) p at 138 16 h q hp
-    ∙ ap (λ (x : List ℕ). paste o at x stateWords) (append-assoc r k p)
-
 -- the image
 pub image-put : (s : State) (m t o d e f : List ℕ) (n : ℕ) → length m ≡ n
     → length (s .regs ++ controlWords s) ≡ stateWords

@@ -1,5 +1,5 @@
 // The machine written as an image: contents, then memory, registers, control words and page tables.
-ghost use Rattle.isa.specs.Machine.{largestMemory, stateWords, tableWords};
+ghost use Rattle.isa.specs.Machine.{largestMemory, levelCount, controlCount, stateWords, tableWords, stateWith};
 ghost use mathlib.Core.Path.{_≡_};
 ghost use mathlib.Core.List.{_∷_, [], _++_};
 ghost use Prim.Native.Nat.{_+_, _≤_};
@@ -28,12 +28,11 @@ use isa::constant::STATE_WORDS;
 use isa::constant::TABLE_WORDS;
 use isa::constant::WORD_RANGE;
 use isa::constant::WRITTEN_ENTRIES;
+use isa::machine::Control;
 use isa::machine::State;
 use words::copy;
 
-// Where the PCRs stand among a state's words, and the page tables among an image's words beside memory.
-const PCR_PLACE: usize = REGISTER_WORDS + FIRST_PCR;
-
+// Where the page tables stand among an image's words beside memory.
 const TABLE_PLACE: usize = CONTENTS_SIZE + STATE_WORDS;
 
 // Numbers of the list of contents as words: its entries, and the lengths of three of them.
@@ -83,22 +82,20 @@ fn contents(n: usize) -> [u16; CONTENTS_SIZE]
 // The control words 0 to 9.
 pub type Scalars = [u16; FIRST_PCR];
 
-pub fn scalars_of(s: State) -> Scalars
-    ensures { λ r. ⌜ r ≡ s .level ∷ s .control .interrupts ∷ s .control .paging ∷ s .control .stopped ∷ s .control .pid
-        ∷ s .control .pie ∷ s .control .pvl ∷ s .control .iid ∷ s .control .iie ∷ s .control .pgs ∷ [] ⌝ }
+pub fn scalars_of(level: u16, k: Control) -> Scalars
+    ensures { λ r. ⌜ r ≡ controlWords (stateWith level k [] []) ⌝ }
 {
-    let c = s.control;
     [
-        s.level,
-        c.interrupts,
-        c.paging,
-        c.stopped,
-        c.pid,
-        c.pie,
-        c.pvl,
-        c.iid,
-        c.iie,
-        c.pgs,
+        level,
+        k.interrupts,
+        k.paging,
+        k.stopped,
+        k.pid,
+        k.pie,
+        k.pvl,
+        k.iid,
+        k.iie,
+        k.pgs,
     ]
 }
 
@@ -116,17 +113,28 @@ fn put_memory(mem: &[u16], out: &mut [u16])
     copy(out, CONTENTS_SIZE, mem, 0, n);
 }
 
+// The control words, to the words of the output at `at`.
+pub fn put_control(level: u16, k: Control, pcrs: &[u16], out: &mut [u16], at: usize)
+    requires { ⌜ length (now pcrs) ≡ levelCount ⌝ }
+    requires { ⌜ at + controlCount ≤ length (now out) ⌝ }
+    ensures { λ _. ⌜ now (out .exit)
+        ≡ paste (now (out .entry)) at (controlWords (stateWith level k [] (now (pcrs .entry)))) controlCount ⌝ }
+{
+    let words = scalars_of(level, k);
+    copy(out, at, &words, 0, FIRST_PCR);
+    copy(out, at + FIRST_PCR, pcrs, 0, LEVEL_COUNT);
+}
+
 // Registers and control words, to the words of the output at `at`.
 pub fn put_state(s: State, out: &mut [u16], at: usize)
     requires { ⌜ at + stateWords ≤ length (now out) ⌝ }
     ensures { λ _. ⌜ now (out .exit) ≡ paste (now (out .entry)) at (s .regs ++ controlWords s) stateWords ⌝ }
 {
-    let r = s.regs;
-    let k = scalars_of(s);
-    let p = s.pcr;
-    copy(out, at, &r, 0, REGISTER_WORDS);
-    copy(out, at + REGISTER_WORDS, &k, 0, FIRST_PCR);
-    copy(out, at + PCR_PLACE, &p, 0, LEVEL_COUNT);
+    let regs = s.regs;
+    let k = s.control;
+    let pcrs = s.pcr;
+    copy(out, at, &regs, 0, REGISTER_WORDS);
+    put_control(s.level, k, &pcrs, out, at + REGISTER_WORDS);
 }
 
 // The image, at the front of the output.

@@ -301,6 +301,10 @@ pub record Typed (s : State) : Type 0 where
   pub regs-words : Words (s .regs)
   pub control-words : Words (controlWords s)
 
+-- The parts of a state: the level l, the control words k 1 to 9, the registers b and the PCRs p of all levels.
+abbrev pub stateWith : ℕ → Control → List ℕ → List ℕ → State
+stateWith l k b p = record { regs = b; level = l; control = k; pcr = p }
+
 -- The parts that the engine keeps apart: what the running level works on (a level below 16 has its PCR) ..
 abbrev pub coreOf : State → Core
 coreOf s = record { file = fileAt (s .regs) (s .level); pcr = getD (s .pcr) (s .level) 0; control = s .control }

@@ -113,7 +113,8 @@ impl File {
     }
 }
 
-// The control words 1 to 9. The level (0) and the PCRs (10 to 25) stand beside them.
+// The control words 1 to 9. The level (0) and the PCRs (10 to 25) stand beside them. In C's layout, as is a state.
+#[repr(C)]
 pub struct Control {
     pub interrupts: u16,
     pub paging: u16,
@@ -126,7 +127,9 @@ pub struct Control {
     pub pgs: u16,
 }
 
-// The machine as callers hand it in and get it back: register n of a level is word 8 * level + n.
+// The machine as callers hand it in and get it back: register n of a level is word 8 * level + n. In C's layout its 154
+// words stand in image order, with nothing between them.
+#[repr(C)]
 pub struct State {
     pub regs: [u16; REGISTER_WORDS],
     pub level: u16,

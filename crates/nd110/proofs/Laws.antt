@@ -1,26 +1,35 @@
 -- Words put in front, and what a call leaves by its number.
 -- Assumes nothing.
-use Prim.Native.Nat.{ℕ, _≤_}
-use mathlib.Core.Path.{_≡_, sym, ap, _∙_}
+use Prim.Native.Nat.{ℕ, _+_, _≤_}
+use mathlib.Core.Path.{_≡_, refl, sym, ap, _∙_}
 use mathlib.Core.Bool.{Bool, cond}
-use mathlib.Core.List.{List, _++_}
+use mathlib.Core.List.{List, [], _∷_, _++_, append-nil}
 use native.Mathlib.Omega.{arith}
 use native.Mathlib.Nat.{le-of-eq, zero-add}
-use lib.ListN.{length, drop, length-take}
-use lib.Seq.{paste, take-all}
+use lib.ListN.{length, getD, take, drop, length-take, take-append-drop, drop-of-length-le}
+use lib.Seq.{paste, take-all, take-at, getD-drop}
 use borrow.Author.Tests.{eq-eqb, ne-eqb}
-use Rattle.isa.specs.Machine.{stateWords}
-use Rattle.isa.specs.Answers.{viewAnswer, viewedBy, viewed, targetOf}
+use Rattle.isa.specs.Machine.{registerWords, stateWords, stateWith}
+use Rattle.isa.specs.Answers.{stateAnswer, StepCall, stepCallBy, stepCall, viewAnswer, viewedBy, viewed, targetOf}
+use Rattle.isa.specs.declared.machine.Control.{Control}
 use Rattle.isa.specs.declared.machine.State.{State}
 use Rattle.isa.specs.declared.answer.Target.{Target}
 use Rattle.isa.specs.declared.answer.Answer.{Answer}
 use Rattle.isa.specs.declared.answer.Answer.the-variants.{Done, Refused}
-use Rattle.nd110.specs.Calls.{Left, leftOf, callEnd, called, stateIn, stateOrdered, badCall}
+use Rattle.run.specs.Runs.{stepCalled}
+use Rattle.run.specs.declared.step.StepEnd.{StepEnd}
+use Rattle.nd110.specs.Calls.{Left, leftOf, callEnd, called, stateIn, stateOrdered, badCall, stepEnd, hostStep}
 
 -- ---- words put in front of others
 
 pub put-front : (d w : List ℕ) (n : ℕ) → length w ≡ n → paste d 0 w n ≡ w ++ drop n d
 put-front d w n h = (λ i. take-all n w (le-of-eq h) i ++ drop (zero-add n i) d)
+
+-- .. and behind them, up to the end
+pub put-behind : (d w : List ℕ) (a n : ℕ) → length d ≡ a + n → length w ≡ n → paste d a w n ≡ take a d ++ w
+put-behind d w a n h e =
+    (λ i. take a d ++ take-all n w (le-of-eq e) i ++ drop-of-length-le d {i = a + n} (le-of-eq h) i)
+    ∙ append-nil (take a d ++ w)
 
 -- a view is no longer than asked
 pub viewed-most : (k : Target) (a n : ℕ) (m t : List ℕ) → length (viewed k a n m t) ≤ n
@@ -63,3 +72,40 @@ called-well call end w m t y s r l h given gave left =
     left
     ∙ ap end (gave ∙ ap call given)
     ∙ ap (λ (b : Bool). cond b x (leftOf badCall w m t y)) (sym (eq-eqb (length w) stateWords h))
+
+-- ---- a step of the words themselves: the registers b that it left stand in front of the other words
+
+-- a refused step left the registers, so the words are as they came; one that was done leaves none of the old words
+step-ends : (s : State) (w m t y : List ℕ) → s .regs ≡ take registerWords w
+    → stepEnd (stepCall s m t .state .regs ++ drop registerWords w) y (stepCall s m t) ≡ stepEnd w y (stepCall s m t)
+unfolding stepCall callEnd
+step-ends s w m t y e = go (stateAnswer s m t)
+  where
+    go : (x : Answer) → stepEnd (stepCallBy x s m t .state .regs ++ drop registerWords w) y (stepCallBy x s m t)
+        ≡ stepEnd w y (stepCallBy x s m t)
+    go Done = refl
+    go (Refused r) =
+        ap (λ (v : List ℕ). stepEnd v y (stepCallBy (Refused r) s m t))
+        (ap (λ (v : List ℕ). v ++ drop registerWords w) e ∙ take-append-drop registerWords w)
+
+pub step-on-words : (w m t y : List ℕ) (k : Control) (p : List ℕ) (r : StepEnd) (b q m′ t′ : List ℕ) (l : Left)
+    → length w ≡ stateWords
+    → k ≡ stateIn w .control
+    → p ≡ stateIn w .pcr
+    → length b ≡ registerWords
+    → stepCalled r b q m′ t′ ≡ stepCall (stateWith (getD w registerWords 0) k (take registerWords w) p) m t
+    → l ≡ stepEnd (b ++ drop registerWords w) y
+    (stepCalled r (take registerWords (b ++ drop registerWords w)) q m′ t′)
+    → l ≡ hostStep w m t y
+step-on-words w m t y k p r b q m′ t′ l h hk hp hb e left =
+    let c : StepCall = stepCall (stateIn w) m t in
+    let rest : List ℕ = drop registerWords w in
+    let entered : stateWith (getD w registerWords 0) k (take registerWords w) p ≡ stateIn w =
+    λ i. stateWith (sym (getD-drop registerWords w 0 0) i) (hk i) (take registerWords w) (hp i) in
+    let done : stepCalled r b q m′ t′ ≡ c = e ∙ ap (λ (s : State). stepCall s m t) entered in
+    let front : take registerWords (b ++ rest) ≡ b = take-at b rest registerWords hb in
+    called-well (λ (s : State). stepCall s m t) (stepEnd w y) w m t y (stateIn w) c l h refl refl
+    (left
+    ∙ ap (λ (v : List ℕ). stepEnd (b ++ rest) y (stepCalled r v q m′ t′)) front
+    ∙ (λ i. stepEnd (done i .state .regs ++ rest) y (done i))
+    ∙ step-ends (stateIn w) w m t y refl)

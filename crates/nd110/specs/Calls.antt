@@ -60,6 +60,23 @@ stepEnd w y c =
 abbrev pub hostStep : List ℕ → List ℕ → List ℕ → List ℕ → Left
 hostStep w m t y = called w m t y (stepEnd w y (stepCall (stateIn w) m t))
 
+-- the same of a lent record, in place of words
+pub record LentLeft : Type 0 where
+  pub number : ℕ
+  pub state : State
+  pub memory : List ℕ
+  pub tables : List ℕ
+  pub told : List ℕ
+
+abbrev pub lentLeft : ℕ → State → List ℕ → List ℕ → List ℕ → LentLeft
+lentLeft n s m t x = record { number = n; state = s; memory = m; tables = t; told = x }
+
+-- the record is as the call hands it back, and so are memory and page tables: a refused one hands back what came
+abbrev pub lentStepEnd : ℕ → StepCall → LentLeft
+lentStepEnd y c =
+    lentLeft (stepNumber (c .answer)) (c .state) (c .memory) (c .tables)
+    (cond (eqb (stepNumber (c .answer)) 0) (interruptGiven (c .answer)) y ∷ [])
+
 -- a run tells its steps and its reason's number
 abbrev pub runEnd : List ℕ → List ℕ → RunCall → Left
 runEnd w y c =
@@ -75,6 +92,9 @@ answerEnd w a s m t = callEnd (answerNumber a) s m t [] w []
 
 abbrev pub raiseEnd : List ℕ → List ℕ → List ℕ → StateCall → Left
 raiseEnd w m t c = answerEnd w (c .answer) (c .state) m t
+
+abbrev pub lentRaiseEnd : List ℕ → List ℕ → StateCall → LentLeft
+lentRaiseEnd m t c = lentLeft (answerNumber (c .answer)) (c .state) m t []
 
 abbrev pub hostRaise : ℕ → List ℕ → List ℕ → List ℕ → Left
 hostRaise l w m t = called w m t [] (raiseEnd w m t (raiseCall (stateIn w) l m t))

@@ -2,22 +2,30 @@
 // answers 0, document 01's number of a refusal, or 255 for a call that is no operation; only 0 changes lent words.
 // include/nd110.h declares them.
 ghost use mathlib.Core.Path.{_≡_};
-ghost use mathlib.Core.Bool.{true, false};
+ghost use mathlib.Core.Bool.{true, false, cond};
 ghost use Prim.Native.Nat.{ℕ};
 ghost use mathlib.Core.List.{List, _∷_, []};
-ghost use lib.ListN.{length};
+ghost use lib.Dec.{eqb};
+ghost use lib.ListN.{length, take};
 ghost use Rattle.nd110.specs.Calls.{stateOrdered, leftOf, stepEnd, hostStep, runEnd, hostRun, reasonGiven};
 ghost use Rattle.nd110.specs.Calls.{answerEnd, hostRaise, hostLoad, hostWrite, hostWritten, knownTarget};
 ghost use Rattle.nd110.specs.Calls.{targetNamed, hostViewAnswer, hostView, hostViewed};
-ghost use Rattle.isa.specs.Machine.{stateWords};
-ghost use Rattle.isa.specs.Answers.{runCall};
-ghost use Rattle.operations.specs.Calls.{stepOf, runOf};
+ghost use Rattle.nd110.specs.Calls.{lentLeft, lentStepEnd, lentRaiseEnd};
+ghost use Rattle.isa.specs.Machine.{levelCount, registerWords, stateWords};
+ghost use Rattle.isa.specs.Answers.{stepNumber, interruptGiven, stepCall, raiseCall, runCall};
+ghost use Rattle.run.specs.Runs.{stepCalled};
+ghost use Rattle.operations.specs.Calls.{runOf};
+use image_load::bodies::control_of;
+use image_load::bodies::pcrs_of;
 use image_load::bodies::state_in;
+use image_write::put_control;
 use isa::answer::Answer;
 use isa::answer::RunAnswer;
+use isa::answer::StepAnswer;
 use isa::answer::Target;
 use isa::constant::KIND_MEMORY;
 use isa::constant::KIND_TABLES;
+use isa::constant::REGISTER_WORDS;
 use isa::constant::STATE_WORDS;
 use isa::machine::State;
 use isa::number::answer_number;
@@ -26,12 +34,14 @@ use isa::number::reason_number;
 use isa::number::run_number;
 use isa::number::step_number;
 use isa::number::steps_taken;
+use lent::raise_lent;
+use lent::step_lent;
 use operations::raise::raise;
 use operations::runs::RunResult;
 use operations::runs::through;
 use operations::runs::to_interrupt;
-use operations::step::StepResult;
-use operations::step::step;
+use run::step::StepEnd;
+use run::step::step;
 use words::copy;
 
 // The number of a call that is no operation.
@@ -45,25 +55,39 @@ fn put_state(s: State, words: &mut [u16])
     image_write::put_state(s, words, 0);
 }
 
-// What a step answered, to the lent words.
-fn tell_step(r: StepResult, state: &mut [u16], interrupt: &mut u16) -> u16
-    requires { ⌜ length (now state) ≡ stateWords ⌝ }
-    ensures { λ n. ⌜ ((m t : List ℕ)
-        → leftOf n (now (state .exit)) m t (now (interrupt .exit) ∷ [])
-        ≡ stepEnd (now (state .entry)) (now (interrupt .entry) ∷ []) (stepOf r m t)) ⌝ }
+// A step's number; its interrupt's to `interrupt`, unless it was refused.
+fn tell_interrupt(a: StepAnswer, interrupt: &mut u16) -> u16
+    ensures { λ n. ⌜ n ≡ stepNumber a ⌝ }
+    ensures { λ n. ⌜ now (interrupt .exit) ≡ cond (eqb (stepNumber a) 0) (interruptGiven a) (now (interrupt .entry)) ⌝ }
 {
-    let a = r.answer;
     let n = step_number(a);
     if n != 0 {
         return n;
     }
-    let after = r.state;
-    put_state(after, state);
     *interrupt = interrupt_given(a);
     0
 }
 
-// One step. `interrupt` gets the interrupt's number, 0 if none.
+// What a step of the lent words left beside their registers, to those words.
+fn tell_step(r: StepEnd, pcrs: &[u16], state: &mut [u16], interrupt: &mut u16) -> u16
+    requires { ⌜ length (now pcrs) ≡ levelCount ⌝ }
+    requires { ⌜ length (now state) ≡ stateWords ⌝ }
+    ensures { λ n. ⌜ ((m t : List ℕ)
+        → leftOf n (now (state .exit)) m t (now (interrupt .exit) ∷ [])
+        ≡ stepEnd (now (state .entry)) (now (interrupt .entry) ∷ [])
+        (stepCalled r (take registerWords (now (state .entry))) (now (pcrs .entry)) m t)) ⌝ }
+{
+    let a = r.answer;
+    let n = tell_interrupt(a, interrupt);
+    if n != 0 {
+        return n;
+    }
+    let k = r.control;
+    put_control(r.level, k, pcrs, state, REGISTER_WORDS);
+    0
+}
+
+// One step, on the lent words themselves. `interrupt` gets the interrupt's number, 0 if none.
 #[no_mangle]
 pub extern "C" fn nd110_step(
     state: &mut [u16],
@@ -77,8 +101,34 @@ pub extern "C" fn nd110_step(
     if state.len() != STATE_WORDS {
         return BAD_CALL;
     }
-    let r = step(state_in(state), mem, tables);
-    tell_step(r, state, interrupt)
+    let level = state[REGISTER_WORDS];
+    let k = control_of(&state[REGISTER_WORDS..]);
+    let mut pcrs = pcrs_of(&state[REGISTER_WORDS..]);
+    let r = step(
+        level,
+        k,
+        &mut state[..REGISTER_WORDS],
+        &mut pcrs,
+        mem,
+        tables,
+    );
+    tell_step(r, &pcrs, state, interrupt)
+}
+
+// One step of a lent record.
+#[no_mangle]
+pub extern "C" fn nd110_step_lent(
+    m: &mut State,
+    mem: &mut [u16],
+    tables: &mut [u16],
+    interrupt: &mut u16,
+) -> u16
+    ensures { λ r. ⌜ lentLeft r (now (m .exit)) (now (mem .exit)) (now (tables .exit)) (now (interrupt .exit) ∷ [])
+        ≡ lentStepEnd (now (interrupt .entry))
+        (stepCall (now (m .entry)) (now (mem .entry)) (now (tables .entry))) ⌝ }
+{
+    let a = step_lent(m, mem, tables);
+    tell_interrupt(a, interrupt)
 }
 
 // A run's reason, 0 for one that was refused.
@@ -207,6 +257,17 @@ pub extern "C" fn nd110_raise(state: &mut [u16], level: u16, mem: &[u16], tables
     let a = r.answer;
     let after = r.state;
     tell_answer(a, after, state)
+}
+
+// A device's interrupt to a lent record.
+#[no_mangle]
+pub extern "C" fn nd110_raise_lent(m: &mut State, level: u16, mem: &[u16], tables: &[u16]) -> u16
+    ensures { λ r. ⌜ lentLeft r (now (m .exit)) (now (mem .entry)) (now (tables .entry)) []
+        ≡ lentRaiseEnd (now (mem .entry)) (now (tables .entry))
+        (raiseCall (now (m .entry)) level (now (mem .entry)) (now (tables .entry))) ⌝ }
+{
+    let a = raise_lent(m, level, mem, tables);
+    answer_number(a)
 }
 
 // The machine of an image.

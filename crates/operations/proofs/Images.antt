@@ -15,11 +15,10 @@ use Rattle.isa.specs.declared.answer.Refusal.{Refusal}
 use Rattle.isa.specs.declared.answer.Refusal.the-variants.{Output}
 use Rattle.isa.specs.declared.answer.Answer.{Answer}
 use Rattle.isa.specs.declared.answer.Answer.the-variants.{Done, Refused}
-use Rattle.checks.proofs.Passed.{sizes-of}
+use Rattle.checks.proofs.Passed.{sizes-of, range-of}
 use Rattle.roundtrip.specs.Statement.{Machine}
 use Rattle.roundtrip.proofs.Theorem.{written-image, round-trip}
 use Rattle.operations.specs.Reload.{WrittenAndLoaded}
-use Rattle.operations.proofs.Laws.{range-of}
 
 -- a write that is not refused was of a state that is not, to an output that is long enough
 module _ (s : State) (m t o : List ℕ) (d : writeAnswer s m t o ≡ Done) where

@@ -1,60 +1,20 @@
--- What a call that is not refused has, and what is said of two machines.
+-- A level that is not refused; what is said of two machines; what calls tell.
 -- Assumes nothing.
-use Rattle.isa.specs.Machine.{levelCount, tableWords}
-use Prim.Native.Nat.{ℕ, _<_}
+use Prim.Native.Nat.{ℕ}
 use mathlib.Core.Path.{_≡_, refl, sym, ap, subst, _∙_}
-use mathlib.Core.Bool.{Bool, true, false, cond, not, _&&_}
+use mathlib.Core.Bool.{Bool, true, false, cond}
 use mathlib.Core.List.{List}
-use lib.ListN.{length}
-use lib.Dec.{ltb}
-use borrow.Author.Tests.{ltb-true}
-use Rattle.isa.specs.Machine.{inRange, sizesFit, controlInRange, allPcrBits, flagsFit}
-use Rattle.isa.specs.Answers.{stateAnswer, levelAnswer, deviceLevel, StepCall, stepCall, RunCall, runCall, StateCall}
+use Rattle.isa.specs.Answers.{levelAnswer, deviceLevel, StepCall, stepCall, RunCall, runCall, StateCall}
 use Rattle.isa.specs.Answers.{raiseCall, LoadCall, loadCall, answerNumbers, stepNumbers, runNumbers, stepTold, runTold}
 use Rattle.isa.specs.Answers.{raiseTold, loadTold}
-use Rattle.isa.proofs.Tests.{and-left}
-use Rattle.checks.proofs.Passed.{sizes-of, tables-all}
 use Rattle.laws.proofs.Numbers.{calls-tell}
 use Rattle.isolation.specs.Statement.{Isolated, RefusedAlike}
 use Rattle.isolation.proofs.Theorem.{isolation, refused-alike}
 use Rattle.operations.specs.Pair.{SideBySide}
 use Rattle.isa.specs.declared.answer.Answer.{Answer}
 use Rattle.isa.specs.declared.answer.Answer.the-variants.{Done, Refused}
-use Rattle.isa.specs.declared.answer.Refusal.the-variants.{Sizes, State as StateRange, RaiseLevel}
+use Rattle.isa.specs.declared.answer.Refusal.the-variants.{RaiseLevel}
 use Rattle.isa.specs.declared.machine.State.{State}
-
--- a state in range
-pub range-of : (s : State) (m t : List ℕ) → stateAnswer s m t ≡ Done → inRange s ≡ true
-unfolding stateAnswer
-range-of s m t = go (sizesFit m t) (inRange s)
-  where
-    go : (x y : Bool) → cond (not x) (Refused Sizes) (cond (not y) (Refused StateRange) Done) ≡ Done → y ≡ true
-    go true true e = refl
-    go true false e = cc
-    go false y e = cc
-
--- so a level from 0 to 15
-level-of : (s : State) (m t : List ℕ) → stateAnswer s m t ≡ Done → s .level < levelCount
-unfolding inRange
-level-of s m t e =
-    ltb-true (s .level) 16 (and-left l k (and-left (l && k) p (and-left (l && k && p) f (range-of s m t e))))
-  where
-    l : Bool
-    l = ltb (s .level) 16
-
-    k : Bool
-    k = controlInRange (s .control)
-
-    p : Bool
-    p = allPcrBits (s .pcr)
-
-    f : Bool
-    f = flagsFit 16 (s .regs)
-
--- what a run asks of it
-pub run-needs : (s : State) (m t : List ℕ) → stateAnswer s m t ≡ Done
-    → (s .level < levelCount) × (length t ≡ tableWords)
-run-needs s m t e = (level-of s m t e, tables-all m t (sizes-of s m t e))
 
 -- a device's level
 pub device-of : (l : ℕ) (a : Answer) → levelAnswer l a ≡ Done → deviceLevel l ≡ true

@@ -3,8 +3,8 @@ ghost use mathlib.Core.Path.{_≡_};
 ghost use Rattle.isa.specs.Answers.{raiseCall, levelAnswer, answerNumbers, raiseTold};
 ghost use Rattle.operations.specs.Calls.{raiseOf};
 use checks::device_level;
+use checks::parts_answer;
 use checks::raised;
-use checks::state_answer;
 use isa::answer::Answer;
 use isa::answer::Refusal;
 use isa::machine::State;
@@ -35,7 +35,11 @@ pub fn raise(s: State, level: u16, mem: &[u16], tables: &[u16]) -> RaiseResult
     ensures { λ r. ⌜ raiseOf r ≡ raiseCall s level (now (mem .entry)) (now (tables .entry)) ⌝ }
     ensures { λ r. ⌜ answerNumbers (r .answer) ≡ raiseTold s level (now (mem .entry)) (now (tables .entry)) ⌝ }
 {
-    let a = level_answer(level, state_answer(s, mem, tables));
+    let k = s.control;
+    let a = level_answer(
+        level,
+        parts_answer(s.level, k, &s.regs, &s.pcr, mem, tables),
+    );
     match a {
         Answer::Done => RaiseResult {
             answer: Answer::Done,

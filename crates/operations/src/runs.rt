@@ -3,7 +3,7 @@ ghost use mathlib.Core.Path.{_≡_};
 ghost use mathlib.Core.Bool.{true, false};
 ghost use Rattle.isa.specs.Answers.{runCall, runNumbers, runTold};
 ghost use Rattle.operations.specs.Calls.{runOf};
-use checks::state_answer;
+use checks::parts_answer;
 use isa::answer::Answer;
 use isa::answer::RunAnswer;
 use isa::machine::State;
@@ -21,16 +21,34 @@ pub fn run_by(s: State, mem: &mut [u16], tables: &mut [u16], n: u64, first: bool
         ≡ runCall first n s (now (mem .entry)) (now (tables .entry)) ⌝ }
     ensures { λ r. ⌜ runNumbers (r .answer) ≡ runTold first n s (now (mem .entry)) (now (tables .entry)) ⌝ }
 {
-    let a = state_answer(s, mem, tables);
+    let mut regs = s.regs;
+    let mut pcrs = s.pcr;
+    let k = s.control;
+    let a = parts_answer(s.level, k, &regs, &pcrs, mem, tables);
     match a {
         Answer::Done => {
             let classes = word_class::table::table();
-            let r = run(&classes, s, mem, tables, n, first);
-            let after = r.state;
+            let r = run(
+                &classes,
+                s.level,
+                k,
+                &mut regs,
+                &mut pcrs,
+                mem,
+                tables,
+                n,
+                first,
+            );
+            let control = r.control;
             let reason = r.reason;
             RunResult {
                 answer: RunAnswer::Ran(r.steps, reason),
-                state: after,
+                state: State {
+                    regs: regs,
+                    level: r.level,
+                    control: control,
+                    pcr: pcrs,
+                },
             }
         }
         Answer::Refused(x) => RunResult {

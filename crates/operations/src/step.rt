@@ -2,11 +2,8 @@
 ghost use mathlib.Core.Path.{_≡_};
 ghost use Rattle.isa.specs.Answers.{stepCall, stepNumbers, stepTold};
 ghost use Rattle.operations.specs.Calls.{stepOf};
-use checks::state_answer;
-use isa::answer::Answer;
 use isa::answer::StepAnswer;
 use isa::machine::State;
-use run::run;
 
 // What a step answers, and the state that it leaves.
 pub struct StepResult {
@@ -20,20 +17,19 @@ pub fn step(s: State, mem: &mut [u16], tables: &mut [u16]) -> StepResult
         ≡ stepCall s (now (mem .entry)) (now (tables .entry)) ⌝ }
     ensures { λ r. ⌜ stepNumbers (r .answer) ≡ stepTold s (now (mem .entry)) (now (tables .entry)) ⌝ }
 {
-    let a = state_answer(s, mem, tables);
-    match a {
-        Answer::Done => {
-            let none = [0u8; 0];
-            let r = run(&none, s, mem, tables, 1, false);
-            let after = r.state;
-            StepResult {
-                answer: StepAnswer::Stepped(r.gave),
-                state: after,
-            }
-        }
-        Answer::Refused(x) => StepResult {
-            answer: StepAnswer::Refused(x),
-            state: s,
+    let mut regs = s.regs;
+    let mut pcrs = s.pcr;
+    let k = s.control;
+    let r = run::step::step(s.level, k, &mut regs, &mut pcrs, mem, tables);
+    let answer = r.answer;
+    let control = r.control;
+    StepResult {
+        answer: answer,
+        state: State {
+            regs: regs,
+            level: r.level,
+            control: control,
+            pcr: pcrs,
         },
     }
 }

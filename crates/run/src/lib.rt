@@ -1,5 +1,5 @@
-// The loop that serves a step, a run through and a run to the first interrupt.
-ghost use Rattle.isa.specs.Machine.{levelCount, tableWords};
+// The loop that serves a step, a run through and a run to the first interrupt, over lent registers and PCRs.
+ghost use Rattle.isa.specs.Machine.{levelCount, registerWords, tableWords, stateWith};
 ghost use mathlib.Core.Path.{_≡_};
 ghost use mathlib.Core.Bool.{false};
 ghost use Prim.Native.Nat.{_<_};
@@ -9,15 +9,18 @@ ghost use Rattle.isa.specs.Run.{ended, runFrom};
 ghost use Rattle.isa.specs.Step.{turn, step};
 use crate::machine::run_in;
 use isa::answer::Reason;
-use isa::machine::State;
+use isa::machine::Control;
 use levels::opened;
 use levels::put_back;
 
 mod machine;
+pub mod step;
 
-// The machine after a run, the steps taken, the interrupt that the last of them gave, or 0, and why the run ended.
+// What a run leaves beside lent words: the running level and the control words 1 to 9, the steps taken, the interrupt
+// that the last of them gave, or 0, and why the run ended.
 pub struct RunEnd {
-    pub state: State,
+    pub level: u16,
+    pub control: Control,
     pub steps: u64,
     pub gave: u16,
     pub reason: Reason,
@@ -26,47 +29,37 @@ pub struct RunEnd {
 // At most n steps, through or to the first interrupt. A run through of one step is the step.
 pub fn run(
     classes: &[u8],
-    s: State,
+    level: u16,
+    k: Control,
+    regs: &mut [u16],
+    pcrs: &mut [u16],
     mem: &mut [u16],
     tables: &mut [u16],
     n: u64,
     first: bool,
 ) -> RunEnd
     requires { ⌜ Sorts (now classes) ⌝ }
-    requires { ⌜ s .level < levelCount ⌝ }
+    requires { ⌜ level < levelCount ⌝ }
+    requires { ⌜ (length (now regs) ≡ registerWords) × (length (now pcrs) ≡ levelCount) ⌝ }
     requires { ⌜ length (now tables) ≡ tableWords ⌝ }
-    ensures { λ r. ⌜ ended (r .reason) (r .steps) (r .state) (now (mem .exit)) (now (tables .exit))
-        ≡ runFrom first n 0 s (now (mem .entry)) (now (tables .entry)) ⌝ }
+    ensures { λ r. ⌜ ended (r .reason) (r .steps)
+        (stateWith (r .level) (r .control) (now (regs .exit)) (now (pcrs .exit))) (now (mem .exit)) (now (tables .exit))
+        ≡ runFrom first n 0 (stateWith level k (now (regs .entry)) (now (pcrs .entry))) (now (mem .entry))
+        (now (tables .entry)) ⌝ }
     ensures { λ r. ⌜ (n ≡ 1 → first ≡ false
-        → turn (r .state) (r .gave) (now (mem .exit)) (now (tables .exit))
-        ≡ step s (now (mem .entry)) (now (tables .entry))) ⌝ }
+        → turn (stateWith (r .level) (r .control) (now (regs .exit)) (now (pcrs .exit))) (r .gave) (now (mem .exit))
+        (now (tables .exit))
+        ≡ step (stateWith level k (now (regs .entry)) (now (pcrs .entry))) (now (mem .entry)) (now (tables .entry))) ⌝ }
 {
-    let mut regs = s.regs;
-    let mut pcrs = s.pcr;
-    let k = s.control;
-    let c = opened(s.level, k, &regs, &pcrs);
-    let r = run_in(
-        classes,
-        s.level,
-        c,
-        &mut regs,
-        &mut pcrs,
-        mem,
-        tables,
-        n,
-        first,
-    );
+    let c = opened(level, k, regs, pcrs);
+    let r = run_in(classes, level, c, regs, pcrs, mem, tables, n, first);
     let core = r.core;
     let control = core.control;
     let reason = r.reason;
-    put_back(r.level, core, &mut regs, &mut pcrs);
+    put_back(r.level, core, regs, pcrs);
     RunEnd {
-        state: State {
-            regs: regs,
-            level: r.level,
-            control: control,
-            pcr: pcrs,
-        },
+        level: r.level,
+        control: control,
         steps: r.steps,
         gave: r.gave,
         reason: reason,

@@ -11,7 +11,7 @@ all-pcr-bits-requires c κs = search needs
 flags-fit-requires : tie.Need-flags-fit-requires
 flags-fit-requires c κs = search needs
 
--- all_pcr_bits(p)
+-- all PCRs are in range
 returns : tie.Need-returns
 returns c = c .flags-fit .ensures ∙ simp (sym (c .before .before .all-pcr-bits .ensures) ∙ c .before .if1 .taken)
 

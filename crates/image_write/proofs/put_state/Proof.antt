@@ -1,90 +1,68 @@
--- Registers, control words, PCRs.
+-- Registers, then the control words.
 -- Assumes nothing.
-use Rattle.isa.specs.Machine.{levelCount, registerWords}
-use Prim.Native.Nat.{_≤_}
-use mathlib.Core.Path.{_≡_, refl, sym, _∙_}
+use Prim.Native.Nat.{ℕ, _+_}
+use mathlib.Core.Path.{_≡_, sym, ap, _∙_}
+use mathlib.Core.List.{List}
 use native.Mathlib.Omega.{arith}
 use lib.ListN.{length, length-map}
+use lib.Seq.{paste}
 use borrow.Author.Needs.{needs}
-use Rattle.image_write.proofs.Written.{state-put}
+use Rattle.isa.specs.Machine.{levelCount, registerWords, controlCount, controlWords}
+use Rattle.image_write.proofs.Joined.{paste-join}
 use Rattle.image_write.proofs.put_state.Statement.{statement}
 use Rattle.image_write.proofs.put_state.Tie as tie
 
-scalars-of-requires : tie.Need-scalars-of-requires
-scalars-of-requires c κs = search needs
+-- the words of all levels, as many as their arrays have
+regs-long : (k : tie.Start) → length (k .args .s .regs) ≡ registerWords
+regs-long k = sym (length-map (k .args .s .regs) _) ∙ k .good .0 .1 .1 .0 .1 .0 .1
+
+pcrs-long : (k : tie.Start) → length (k .args .s .pcr) ≡ levelCount
+pcrs-long k = sym (length-map (k .args .s .pcr) _) ∙ k .good .0 .1 .1 .1 .1 .1 .0 .1 .0 .1
 
 slice-aggregate-copy : tie.Need-slice-aggregate-copy
 slice-aggregate-copy c = search needs
 
--- the 128 registers lie within the output
+-- the registers lie within the output
 copy-requires : tie.Need-copy-requires
 copy-requires c κs =
-    let at-scalars-of = c .before .before .before in
-    let start = at-scalars-of .before .before .before in
-    let e : length (start .args .s .regs) ≡ registerWords =
-    sym (length-map (start .args .s .regs) _) ∙ start .good .0 .1 .1 .0 .1 .0 .1 in
-    (omega (arith, start .pre), omega (arith, e))
+    let lent = c .before .before .before .before in
+    let start = lent .before .before in
+    (omega (arith, start .pre), omega (arith, regs-long start))
 
-add-copy : tie.Need-add-copy
-add-copy c = search needs
+slice-aggregate-put-control : tie.Need-slice-aggregate-put-control
+slice-aggregate-put-control c = search needs
 
-slice-aggregate-copy-2 : tie.Need-slice-aggregate-copy-2
-slice-aggregate-copy-2 c = search needs
+add-put-control : tie.Need-add-put-control
+add-put-control c = search needs
 
-copy-requires-2 : tie.Need-copy-requires-2
-copy-requires-2 c κs = search needs
-
-add-copy-2 : tie.Need-add-copy-2
-add-copy-2 c = search needs
-
-slice-aggregate-copy-3 : tie.Need-slice-aggregate-copy-3
-slice-aggregate-copy-3 c = search needs
-
--- the 16 PCRs lie within the output, after the other control words
-copy-requires-3 : tie.Need-copy-requires-3
-copy-requires-3 c κs =
-    let at-copy2 = c .before .before .before .before in
-    let second-lent = at-copy2 .before .before .before .before in
-    let pcr-known = second-lent .before .before .before .before in
-    let start = pcr-known .before .before .before .before in
-    let e : length (start .args .s .pcr) ≡ levelCount =
-    sym (length-map (start .args .s .pcr) _) ∙ start .good .0 .1 .1 .1 .1 .1 .0 .1 .0 .1 in
-    (omega (arith, start .pre), omega (arith, e))
+put-control-requires : tie.Need-put-control-requires
+put-control-requires c κs = search needs
 
 same-length : tie.Need-same-length
 same-length c = search needs
 
 returns : tie.Need-returns
 returns c =
-    let at-copy3 = c .before .before in
-    let third-lent = at-copy3 .before .before .before .before in
-    let at-copy2 = third-lent .before in
-    let second-lent = at-copy2 .before .before .before .before in
-    let at-copy = second-lent .before in
-    let at-scalars-of = at-copy .before .before .before .before in
-    let start = at-scalars-of .before .before .before in
-    let e : length (start .args .s .regs) ≡ registerWords =
-    sym (length-map (start .args .s .regs) _) ∙ start .good .0 .1 .1 .0 .1 .0 .1 in
-    let g : length (start .args .s .pcr) ≡ levelCount =
-    sym (length-map (start .args .s .pcr) _) ∙ start .good .0 .1 .1 .1 .1 .1 .0 .1 .0 .1 in
-    let h : start .args .at ≤ length (start .args .out .now) = omega (arith, start .pre) in
-    let s = at-scalars-of .scalars-of in
-    state-put (start .args .out .now) (start .args .s .regs) (s .result) _ (start .args .s .pcr)
-    (at-copy .copy .last .0) (at-copy2 .copy2 .last .0) (at-copy3 .copy3 .last .0) (start .args .at) h e refl g
-    (s .ensures) (at-copy .copy .ensures) (at-copy2 .copy2 .ensures) (at-copy3 .copy3 .ensures)
+    let second = c .before .before in
+    let back = second .before .before .before .before in
+    let first = back .before in
+    let lent = first .before .before .before .before in
+    let start = lent .before .before .before in
+    let a = start .args in
+    let s = a .s in
+    second .put-control .ensures
+    ∙ ap (λ (x : List ℕ). paste x (a .at + registerWords) (controlWords s) controlCount) (first .copy .ensures)
+    ∙ paste-join (a .out .now) (s .regs) (controlWords s) (a .at) registerWords controlCount (omega (arith, start .pre))
+    (regs-long start) (omega (arith, pcrs-long start))
 
 pub put-state-spec : {M : Type 1} → statement M
 put-state-spec =
     tie.close
     (tie.spec
-    scalars-of-requires
     slice-aggregate-copy
     copy-requires
-    add-copy
-    slice-aggregate-copy-2
-    copy-requires-2
-    add-copy-2
-    slice-aggregate-copy-3
-    copy-requires-3
+    slice-aggregate-put-control
+    add-put-control
+    put-control-requires
     same-length
     returns)

@@ -1,31 +1,86 @@
--- A step of the words' state, or a refusal.
+-- A step of the lent words, or a refusal.
 -- Assumes nothing.
-use mathlib.Core.List.{[], _∷_}
-use Rattle.isa.specs.Answers.{stepCall}
-use Rattle.isa.specs.declared.machine.State.{State}
-use Rattle.nd110.specs.Calls.{stepEnd}
-use Rattle.nd110.proofs.Laws.{called-well, called-badly}
+use Prim.Native.Nat.{ℕ, _-_}
+use mathlib.Core.Path.{_≡_, sym, ap, _∙_}
+use mathlib.Core.List.{List, [], _∷_}
+use native.Mathlib.Omega.{arith}
+use lib.ListN.{length, take, drop, length-drop}
+use lib.Seq.{length-take-le, take-all}
+use Rattle.isa.specs.Machine.{registerWords, stateOf}
+use Rattle.nd110.proofs.Laws.{called-badly, step-on-words}
 use borrow.Author.Needs.{needs}
 use Rattle.nd110.proofs.nd110_step.Statement.{statement}
 use Rattle.nd110.proofs.nd110_step.Tie as tie
 
--- where the state was taken in: before it the function's start
-abbrev started : tie.After-state-in → tie.Start
-started c = let tested = c .before .before .before in tested .before .before .before
+-- ---- places: the answer told, the step, the PCRs and the control words taken out, the test of the length, the start
 
--- where the answer was told: before it the step
 abbrev stepping : tie.After-tell-step → tie.After-step
-stepping c = let lent = c .before .before .before .before in lent .before .before .before
+stepping c =
+    let tables = c .before .before .before .before in
+    let pcrs = tables .before .before .before .before in pcrs .before .before .before
+
+abbrev entered : tie.After-step-arg3 → tie.After-pcrs-of
+entered c = c .before .before .before .before
+
+abbrev controlled : tie.After-pcrs-of → tie.After-control-of
+controlled c = c .before .before .before
+
+abbrev tested : tie.After-control-of → tie.Else1
+tested c = c .before .before .before .before
+
+abbrev started : tie.After-control-of → tie.Start
+started c = let known = tested c in known .before .before .before .before
 
 -- a state of another length
 returns : tie.Need-returns
 returns c = called-badly _ _ _ _ _ (c .if1 .taken)
 
-state-in-requires : tie.Need-state-in-requires
-state-in-requires c κs = search needs
+slice-read-level : tie.Need-slice-read-level
+slice-read-level c = search needs
+
+sub-control-of : tie.Need-sub-control-of
+sub-control-of c = search needs
+
+part-control-of-start : tie.Need-part-control-of-start
+part-control-of-start c = search needs
+
+part-control-of-end : tie.Need-part-control-of-end
+part-control-of-end c = search needs
+
+control-of-requires : tie.Need-control-of-requires
+control-of-requires c κs = search needs
+
+sub-pcrs-of : tie.Need-sub-pcrs-of
+sub-pcrs-of c = search needs
+
+part-pcrs-of-start : tie.Need-part-pcrs-of-start
+part-pcrs-of-start c = search needs
+
+part-pcrs-of-end : tie.Need-part-pcrs-of-end
+part-pcrs-of-end c = search needs
+
+pcrs-of-requires : tie.Need-pcrs-of-requires
+pcrs-of-requires c κs = search needs
+
+slice-relend-prefix-step : tie.Need-slice-relend-prefix-step
+slice-relend-prefix-step c = search needs
+
+slice-aggregate-step : tie.Need-slice-aggregate-step
+slice-aggregate-step c =
+    let control = controlled (c .before) in
+    sym (length-take-le registerWords (started control .args .state .now) (omega (arith, tested control .if1 .left)))
+
+slice-aggregate-step-2 : tie.Need-slice-aggregate-step-2
+slice-aggregate-step-2 c = search needs
 
 step-requires : tie.Need-step-requires
-step-requires c κs = search needs
+step-requires c κs =
+    let control = controlled (entered c) in
+    let long = tested control .if1 .left in
+    (length-take-le registerWords (started control .args .state .now) (omega (arith, long)), search needs)
+
+slice-aggregate-tell-step : tie.Need-slice-aggregate-tell-step
+slice-aggregate-tell-step c = search needs
 
 tell-step-requires : tie.Need-tell-step-requires
 tell-step-requires c κs = search needs
@@ -44,22 +99,38 @@ returns-2 : tie.Need-returns-2
 returns-2 c =
     let told = c .before .before in
     let done = stepping told in
-    let entered = done .before .before .before in
-    let a = started entered .args in
-    let m = a .mem .now in
-    let t = a .tables .now in
-    let y = a .interrupt .now ∷ [] in
-    called-well (λ (s : State). stepCall s m t) (stepEnd (a .state .now) y) (a .state .now) m t y _ _ _
-    (entered .before .before .if1 .left) (entered .state-in .ensures) (done .step .ensures .0)
-    (told .tell-step .ensures _ _)
+    let pcrs = entered (done .before) in
+    let control = controlled pcrs in
+    let a = started control .args in
+    let w = a .state .now in
+    let long = tested control .if1 .left in
+    let rest : take (length w - registerWords) (drop registerWords w) ≡ drop registerWords w =
+    take-all (length w - registerWords) (drop registerWords w) (simp length-drop (omega arith)) in
+    step-on-words w (a .mem .now) (a .tables .now) (a .interrupt .now ∷ []) _ _ _ _ _ _ _ _ long
+    (control .control-of .ensures ∙ ap (λ (l : List ℕ). stateOf [] l .control) rest)
+    (pcrs .pcrs-of .ensures ∙ ap (λ (l : List ℕ). stateOf [] l .pcr) rest)
+    (done .step .kept .1 .1 .0 ∙ length-take-le registerWords w (omega (arith, long)))
+    (done .step .ensures) (told .tell-step .ensures _ _)
 
 pub nd110-step-spec : {M : Type 1} → statement M
 nd110-step-spec =
     tie.close
     (tie.spec
     returns
-    state-in-requires
+    slice-read-level
+    sub-control-of
+    part-control-of-start
+    part-control-of-end
+    control-of-requires
+    sub-pcrs-of
+    part-pcrs-of-start
+    part-pcrs-of-end
+    pcrs-of-requires
+    slice-relend-prefix-step
+    slice-aggregate-step
+    slice-aggregate-step-2
     step-requires
+    slice-aggregate-tell-step
     tell-step-requires
     same-length
     same-length-2

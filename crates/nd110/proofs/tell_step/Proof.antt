@@ -1,44 +1,62 @@
--- By the number: the interrupt, or nothing.
+-- By the number: the control words behind the registers, or nothing.
 -- Assumes nothing.
 use Prim.Native.Nat.{ℕ}
-use mathlib.Core.Path.{ap}
-use mathlib.Core.List.{[], _∷_}
-use Rattle.nd110.proofs.Laws.{ended-refused, ended-done}
+use mathlib.Core.Path.{_≡_, sym, ap, _∙_}
+use mathlib.Core.Bool.{Bool, cond}
+use mathlib.Core.List.{List, [], _∷_}
+use native.Mathlib.Omega.{arith}
+use lib.ListN.{take}
 use borrow.Author.Needs.{needs}
+use borrow.Author.Tests.{eq-eqb, ne-eqb}
+use Rattle.isa.specs.Machine.{registerWords, controlCount, stateWith, controlWords}
+use Rattle.isa.specs.Answers.{interruptGiven}
+use Rattle.nd110.specs.Calls.{leftOf}
+use Rattle.nd110.proofs.Laws.{ended-refused, ended-done, put-behind}
 use Rattle.nd110.proofs.tell_step.Statement.{statement}
 use Rattle.nd110.proofs.tell_step.Tie as tie
 
-step-number-requires : tie.Need-step-number-requires
-step-number-requires c κs = search needs
+-- where the interrupt was told: before it the function's start
+abbrev started : tie.After-tell-interrupt → tie.Start
+started c = c .before .before .before .before
 
--- if n != 0
+tell-interrupt-requires : tie.Need-tell-interrupt-requires
+tell-interrupt-requires c κs = search needs
+
+-- refused
 returns : tie.Need-returns
-returns c = λ m t. ended-refused _ _ _ m t _ _ _ (c .before .step-number .ensures) (c .if1 .taken)
+returns c = λ m t.
+    let told = c .before .tell-interrupt in
+    let a = started (c .before) .args in
+    let kept = told .ensures .1
+    ∙ ap (λ (b : Bool). cond b (interruptGiven (a .r .answer)) (a .interrupt .now))
+    (ne-eqb _ 0 (λ e. c .if1 .taken (told .ensures .0 ∙ e))) in
+    ap (λ (x : ℕ). leftOf (told .result) (a .state .now) m t (x ∷ [])) kept
+    ∙ ended-refused _ _ _ m t _ _ _ (told .ensures .0) (c .if1 .taken)
 
-put-state-requires : tie.Need-put-state-requires
-put-state-requires c κs = search needs
-
-interrupt-given-requires : tie.Need-interrupt-given-requires
-interrupt-given-requires c κs = search needs
+put-control-requires : tie.Need-put-control-requires
+put-control-requires c κs = search needs
 
 same-length : tie.Need-same-length
 same-length c = search needs
 
--- otherwise
+-- done
 returns-2 : tie.Need-returns-2
 returns-2 c = λ m t.
-    let stored = c .before .before .before in
+    let stored = c .before .before in
     let left = stored .before .before .before in
-    ended-done _ _ _ m t _ _ _ (left .before .step-number .ensures) _ _ (left .if1 .left) (stored .put-state .ensures)
-    (ap (λ (n : ℕ). n ∷ []) (c .interrupt-given .ensures))
+    let told = left .before .tell-interrupt in
+    let start = started (left .before) in
+    let a = start .args in
+    let w = a .state .now in
+    let given = told .ensures .1
+    ∙ ap (λ (b : Bool). cond b (interruptGiven (a .r .answer)) (a .interrupt .now))
+    (eq-eqb _ 0 (sym (told .ensures .0) ∙ left .if1 .left)) in
+    let words = stored .put-control .ensures
+    ∙ put-behind w (controlWords (stateWith (a .r .level) (a .r .control) [] (a .pcrs .now))) registerWords controlCount
+    (start .pre .1) (omega (arith, start .pre .0)) in
+    ended-done _ _ (stateWith (a .r .level) (a .r .control) (take registerWords w) (a .pcrs .now)) m t _ _ _
+    (told .ensures .0) _ _ (left .if1 .left) words (ap (λ (n : ℕ). n ∷ []) given)
 
 pub tell-step-spec : {M : Type 1} → statement M
 tell-step-spec =
-    tie.close
-    (tie.spec
-    step-number-requires
-    returns
-    put-state-requires
-    interrupt-given-requires
-    same-length
-    returns-2)
+    tie.close (tie.spec tell-interrupt-requires returns put-control-requires same-length returns-2)

@@ -10,8 +10,14 @@ use borrow.Author.Needs.{needs}
 use Rattle.operations.proofs.raise.raise.Statement.{statement}
 use Rattle.operations.proofs.raise.raise.Tie as tie
 
-state-answer-requires : tie.Need-state-answer-requires
-state-answer-requires c κs = search needs
+-- where the state's answer was asked for: before it the function's start
+abbrev started : tie.After-parts-answer → tie.Start
+started c =
+    let lent = c .before .before .before .before in
+    let known = lent .before .before .before .before in known .before
+
+parts-answer-requires : tie.Need-parts-answer-requires
+parts-answer-requires c κs = search needs
 
 level-answer-requires : tie.Need-level-answer-requires
 level-answer-requires c κs = search needs
@@ -23,8 +29,8 @@ enum-told c = search needs
 raised-requires : tie.Need-raised-requires
 raised-requires c κs =
     let asked = c .before .before in
-    let level = asked .before .before .before .before .args .level in
-    device-of level (asked .before .state-answer .result) (sym (asked .level-answer .ensures) ∙ c .enum-told .given .1)
+    let level = started (asked .before) .args .level in
+    device-of level (asked .before .parts-answer .result) (sym (asked .level-answer .ensures) ∙ c .enum-told .given .1)
 
 enum-known-a : tie.Need-enum-known-a
 enum-known-a c = search needs
@@ -34,32 +40,32 @@ returns : tie.Need-returns
 unfolding raiseCall
 returns c =
     let asked = c .before .before .before in
-    let a = asked .before .before .before .before .args in
-    let done : Done ≡ levelAnswer (a .level) (stateAnswer (a .s) (a .mem .now) (a .tables .now)) =
+    let a = started (asked .before) .args in
+    let done : Done ≡ levelAnswer (a .level) (stateAnswer (a .t1) (a .mem .now) (a .tables .now)) =
     sym (c .before .enum-told .given .1)
     ∙ asked .level-answer .ensures
-    ∙ ap (levelAnswer (a .level)) (asked .before .state-answer .ensures) in
-    raise-told (a .s) (a .level) (a .mem .now) (a .tables .now) _
+    ∙ ap (levelAnswer (a .level)) (asked .before .parts-answer .ensures) in
+    raise-told (a .t1) (a .level) (a .mem .now) (a .tables .now) _
     (ap (λ (s : State). record { answer = Done; state = s }) (c .raised .ensures)
-    ∙ ap (λ (x : Answer). raiseCallBy x (a .s) (a .level)) done)
+    ∙ ap (λ (x : Answer). raiseCallBy x (a .t1) (a .level)) done)
 
 -- refused
 returns-2 : tie.Need-returns-2
 unfolding raiseCall
 returns-2 c =
     let asked = c .before .before .before in
-    let a = asked .before .before .before .before .args in
-    raise-told (a .s) (a .level) (a .mem .now) (a .tables .now) _
-    (ap (λ (x : Answer). raiseCallBy x (a .s) (a .level))
+    let a = started (asked .before) .args in
+    raise-told (a .t1) (a .level) (a .mem .now) (a .tables .now) _
+    (ap (λ (x : Answer). raiseCallBy x (a .t1) (a .level))
     (sym (c .before .a .given .1)
     ∙ asked .level-answer .ensures
-    ∙ ap (levelAnswer (a .level)) (asked .before .state-answer .ensures)))
+    ∙ ap (levelAnswer (a .level)) (asked .before .parts-answer .ensures)))
 
 pub raise-spec : {M : Type 1} → statement M
 raise-spec =
     tie.close
     (tie.spec
-    state-answer-requires
+    parts-answer-requires
     level-answer-requires
     enum-told
     raised-requires

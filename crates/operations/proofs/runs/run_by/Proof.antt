@@ -1,16 +1,45 @@
 -- By the answer: a run from a state in range, or the refusal.
 -- Assumes nothing.
 use mathlib.Core.Path.{_≡_, sym, ap, _∙_}
+use lib.ListN.{length, length-map}
+use Rattle.isa.specs.Machine.{levelCount, registerWords}
 use Rattle.isa.specs.Answers.{stateAnswer, ranCall, runCallBy, runCall}
 use Rattle.isa.specs.declared.answer.Answer.{Answer}
 use Rattle.isa.specs.declared.answer.Answer.the-variants.{Done}
-use Rattle.operations.proofs.Laws.{run-needs, run-told}
+use Rattle.checks.proofs.Passed.{run-needs}
+use Rattle.operations.proofs.Laws.{run-told}
 use borrow.Author.Needs.{needs}
 use Rattle.operations.proofs.runs.run_by.Statement.{statement}
 use Rattle.operations.proofs.runs.run_by.Tie as tie
 
-state-answer-requires : tie.Need-state-answer-requires
-state-answer-requires c κs = search needs
+-- ---- places: the run's arguments, the table, the answer, the start
+
+abbrev made : tie.After-run-arg2 → tie.After-table
+made c = let classes = c .before .before .before .before in classes .before
+
+abbrev asked : tie.After-enum-told → tie.After-parts-answer
+asked c = c .before .before
+
+abbrev started : tie.After-parts-answer → tie.Start
+started c =
+    let lent = c .before .before .before .before in
+    let copies = lent .before .before .before .before in copies .before .before
+
+-- the words of all levels, as many as their arrays have
+regs-long : (k : tie.Start) → length (k .args .s .regs) ≡ registerWords
+regs-long k = sym (length-map (k .args .s .regs) _) ∙ k .good .0 .1 .1 .0 .1 .0 .1
+
+pcrs-long : (k : tie.Start) → length (k .args .s .pcr) ≡ levelCount
+pcrs-long k = sym (length-map (k .args .s .pcr) _) ∙ k .good .0 .1 .1 .1 .1 .1 .0 .1 .0 .1
+
+slice-aggregate-parts-answer : tie.Need-slice-aggregate-parts-answer
+slice-aggregate-parts-answer c = search needs
+
+slice-aggregate-parts-answer-2 : tie.Need-slice-aggregate-parts-answer-2
+slice-aggregate-parts-answer-2 c = search needs
+
+parts-answer-requires : tie.Need-parts-answer-requires
+parts-answer-requires c κs = search needs
 
 enum-told : tie.Need-enum-told
 enum-told c = search needs
@@ -21,13 +50,19 @@ table-requires c κs = search needs
 slice-aggregate-run : tie.Need-slice-aggregate-run
 slice-aggregate-run c = search needs
 
--- the table of the classes; a state in range, page tables of 256 words
+slice-aggregate-run-2 : tie.Need-slice-aggregate-run-2
+slice-aggregate-run-2 c = search needs
+
+slice-aggregate-run-3 : tie.Need-slice-aggregate-run-3
+slice-aggregate-run-3 c = search needs
+
+-- the table of the classes; a state in range; the words of all levels; page tables of 256 words
 run-requires : tie.Need-run-requires
 run-requires c κs =
-    let made = c .before .before .before in
-    let told = made .before in
-    let asked = told .before .before in
-    (made .table .ensures .1, run-needs _ _ _ (sym (asked .state-answer .ensures) ∙ told .enum-told .given .1))
+    let told = made c .before in
+    let start = started (asked told) in
+    let fits = run-needs _ _ _ (sym (asked told .parts-answer .ensures) ∙ told .enum-told .given .1) in
+    (made c .table .ensures .1, (fits .0, ((regs-long start, pcrs-long start), fits .1)))
 
 enum-known-a : tie.Need-enum-known-a
 enum-known-a c = search needs
@@ -42,14 +77,12 @@ same-length-2 c = search needs
 returns : tie.Need-returns
 unfolding runCall
 returns c =
-    let left = c .before .before .before in
-    let running = left .before .before in
-    let told = let made = running .before .before .before .before in made .before in
-    let asked = told .before .before in
-    let entered = asked .before .before .before in
-    let a = entered .before .before .args in
+    let mem = c .before .before .before .before in
+    let running = mem .before .before .before in
+    let told = made (running .before) .before in
+    let a = started (asked told) .args in
     let done : Done ≡ stateAnswer (a .s) (a .mem .now) (a .tables .now) =
-    sym (told .enum-told .given .1) ∙ asked .state-answer .ensures in
+    sym (told .enum-told .given .1) ∙ asked told .parts-answer .ensures in
     run-told (a .first) (a .n) (a .s) (a .mem .now) (a .tables .now) _
     (ap ranCall (running .run .ensures .0)
     ∙ ap (λ (x : Answer). runCallBy x (a .first) (a .n) (a .s) (a .mem .now) (a .tables .now)) done)
@@ -64,21 +97,24 @@ same-length-4 c = search needs
 returns-2 : tie.Need-returns-2
 unfolding runCall
 returns-2 c =
-    let asked = c .before .before .before in
-    let entered = asked .before .before .before in
-    let a = entered .before .before .args in
+    let answered = c .before .before .before in
+    let a = started answered .args in
     run-told (a .first) (a .n) (a .s) (a .mem .now) (a .tables .now) _
     (ap (λ (x : Answer). runCallBy x (a .first) (a .n) (a .s) (a .mem .now) (a .tables .now))
-    (sym (c .before .a .given .1) ∙ asked .state-answer .ensures))
+    (sym (c .before .a .given .1) ∙ answered .parts-answer .ensures))
 
 pub run-by-spec : {M : Type 1} → statement M
 run-by-spec =
     tie.close
     (tie.spec
-    state-answer-requires
+    slice-aggregate-parts-answer
+    slice-aggregate-parts-answer-2
+    parts-answer-requires
     enum-told
     table-requires
     slice-aggregate-run
+    slice-aggregate-run-2
+    slice-aggregate-run-3
     run-requires
     enum-known-a
     same-length

@@ -3,21 +3,21 @@
 use mathlib.Core.Path.{sym, _∙_}
 use borrow.Author.Needs.{needs}
 use Rattle.isa.specs.Answers.{stateAnswer}
-use Rattle.checks.proofs.state_answer.Statement.{statement}
-use Rattle.checks.proofs.state_answer.Tie as tie
+use Rattle.checks.proofs.parts_answer.Statement.{statement}
+use Rattle.checks.proofs.parts_answer.Tie as tie
 
 sizes-fit-requires : tie.Need-sizes-fit-requires
 sizes-fit-requires c κs = search needs
 
-in-range-requires : tie.Need-in-range-requires
-in-range-requires c κs = search needs
+parts-in-range-requires : tie.Need-parts-in-range-requires
+parts-in-range-requires c κs = search needs
 
 -- sizes and state fit
 returns : tie.Need-returns
 unfolding stateAnswer
 returns c = simp (
   sym (c .before .before .before .sizes-fit .ensures) ∙ c .before .before .if1 .taken,
-  sym (c .before .in-range .ensures) ∙ c .if2 .taken,
+  sym (c .before .parts-in-range .ensures) ∙ c .if2 .taken,
 )
 
 -- refusal 2: the state is out of range
@@ -25,7 +25,7 @@ returns-2 : tie.Need-returns-2
 unfolding stateAnswer
 returns-2 c = simp (
   sym (c .before .before .before .sizes-fit .ensures) ∙ c .before .before .if1 .taken,
-  sym (c .before .in-range .ensures) ∙ c .if2 .left,
+  sym (c .before .parts-in-range .ensures) ∙ c .if2 .left,
 )
 
 -- refusal 1: the sizes do not fit
@@ -33,6 +33,6 @@ returns-3 : tie.Need-returns-3
 unfolding stateAnswer
 returns-3 c = simp (sym (c .before .sizes-fit .ensures) ∙ c .if1 .left)
 
-pub state-answer-spec : {M : Type 1} → statement M
-state-answer-spec =
-    tie.close (tie.spec sizes-fit-requires in-range-requires returns returns-2 returns-3)
+pub parts-answer-spec : {M : Type 1} → statement M
+parts-answer-spec =
+    tie.close (tie.spec sizes-fit-requires parts-in-range-requires returns returns-2 returns-3)
