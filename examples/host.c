@@ -11,8 +11,8 @@
 #include <stdlib.h>
 #include <string.h>
 
-/* A machine is three pieces of the host's memory. */
-static uint16_t state[ND110_STATE_WORDS];
+/* A machine is three pieces of the host's memory: the state, here as a record, memory and page tables. */
+static nd110_state state;
 static uint16_t memory[16 * ND110_PAGE_WORDS];
 static uint16_t tables[ND110_TABLE_WORDS];
 
@@ -58,15 +58,14 @@ static size_t read_image(const char *name)
 
 static unsigned reg(unsigned number)
 {
-    unsigned level = state[ND110_CONTROL(ND110_CONTROL_LEVEL)];
-    return state[ND110_REGISTER(level, number)];
+    return state.registers[state.level][number];
 }
 
 /* One step, and the interrupt that it gave (0 if none). */
 static void step(const char *name)
 {
     uint16_t interrupt = 0;
-    unsigned answer = nd110_step(LENT(state), LENT(memory), LENT(tables), &interrupt);
+    unsigned answer = nd110_step_lent(&state, LENT(memory), LENT(tables), &interrupt);
     if (answer != ND110_DONE)
         refused(name, answer);
     printf("step: interrupt %u, P %06o, A %06o\n", (unsigned)interrupt, reg(ND110_P), reg(ND110_A));
@@ -75,9 +74,8 @@ static void step(const char *name)
 /* A device raises a level. A refusal is an answer like others: the machine is as it was. */
 static void raise_level(uint16_t level)
 {
-    unsigned answer = nd110_raise(LENT(state), level, LENT(memory), LENT(tables));
-    printf("raise of %u: answer %u, PID %06o\n", (unsigned)level, answer,
-           (unsigned)state[ND110_CONTROL(ND110_PID)]);
+    unsigned answer = nd110_raise_lent(&state, level, LENT(memory), LENT(tables));
+    printf("raise of %u: answer %u, PID %06o\n", (unsigned)level, answer, (unsigned)state.pid);
 }
 
 /* At most n steps. */
@@ -85,7 +83,7 @@ static void run(const char *name, uint64_t n)
 {
     uint64_t steps = 0;
     uint16_t reason = 0;
-    unsigned answer = nd110_run(LENT(state), LENT(memory), LENT(tables), n, &steps, &reason);
+    unsigned answer = nd110_run(ND110_WORDS(&state), LENT(memory), LENT(tables), n, &steps, &reason);
     if (answer != ND110_DONE)
         refused(name, answer);
     printf("run: steps %llu, reason %u, P %06o\n", (unsigned long long)steps, (unsigned)reason, reg(ND110_P));
@@ -115,7 +113,7 @@ int main(int count, char **words)
         printf("usage: host IMAGE\n");
         return 0;
     }
-    answer = nd110_load(LENT(state), image, read_image(name), LENT(memory), LENT(tables));
+    answer = nd110_load(ND110_WORDS(&state), image, read_image(name), LENT(memory), LENT(tables));
     if (answer != ND110_DONE)
         refused(name, answer);
     step(name);

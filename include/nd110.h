@@ -15,13 +15,18 @@
  *   Each is handed in as a place and its length in words. The engine keeps nothing between calls and allocates nothing:
  *   a machine is these three, they belong to the caller, and the caller may read and write them between calls.
  *
+ * The state as a record
+ *   nd110_state names the same ND110_STATE_WORDS words in the same order, with nothing between them: a record and the
+ *   state words of the other functions are one and the same words. The functions of _lent take a pointer to a record,
+ *   which has its size by its type; the others take ND110_WORDS(&record).
+ *
  * What can be seen, and is refused: every length; every word of the state; every word of an image; the level of a
  * raise; the kind, start and length of a view, sums that would wrap included.
  *
  * What cannot be seen, and is the caller's to ensure:
  *   - a place that is null, or that no longer holds words (dangling): it is read or written all the same.
- *     ND110_LENT(p, n) hands in the length 0 for a null pointer, which is refused wherever words are needed; interrupt,
- *     steps and reason must not be null;
+ *     ND110_LENT(p, n) hands in the length 0 for a null pointer, which is refused wherever words are needed; a record
+ *     that is lent, interrupt, steps and reason must not be null;
  *   - a length greater than what is lent there: the call reads or writes past the end;
  *   - places that overlap, where the call writes one of them: each is taken to be alone. image and out are lent words
  *     too;
@@ -86,10 +91,37 @@ enum {
 static inline size_t nd110_words(const uint16_t *p, size_t n) { return p ? n : 0; }
 #define ND110_LENT(p, n) (p), nd110_words((p), (n))
 
+/* A state as a record: registers[l][n] is register n of level l (ND110_STS to ND110_X), then the control words. */
+typedef struct nd110_state {
+    uint16_t registers[16][8];
+    uint16_t level;
+    uint16_t interrupts_on;
+    uint16_t paging_on;
+    uint16_t stopped;
+    uint16_t pid;
+    uint16_t pie;
+    uint16_t pvl;
+    uint16_t iid;
+    uint16_t iie;
+    uint16_t pgs;
+    uint16_t pcr[16];
+} nd110_state;
+
+/* Does not compile, as C or C++, if the record has other than ND110_STATE_WORDS words. */
+typedef char nd110_state_words[sizeof(nd110_state) == ND110_STATE_WORDS * sizeof(uint16_t) ? 1 : -1];
+
+/* A record's words as the two arguments that the other functions take, ND110_LENT's way:
+ *   nd110_run(ND110_WORDS(&record), memory, memory_len, tables, tables_len, n, &steps, &reason) */
+#define ND110_WORDS(record) ND110_LENT((uint16_t *)(record), ND110_STATE_WORDS)
+
 /* One step. *interrupt gets the number of the interrupt that it gave, 0 if none.
  * ND110_BAD_CALL, ND110_SIZES, ND110_STATE. */
 uint16_t nd110_step(uint16_t *state, size_t state_len, uint16_t *memory, size_t memory_len,
                     uint16_t *tables, size_t tables_len, uint16_t *interrupt);
+
+/* The same step on a record, which has the state after it. ND110_SIZES, ND110_STATE. */
+uint16_t nd110_step_lent(nd110_state *state, uint16_t *memory, size_t memory_len,
+                         uint16_t *tables, size_t tables_len, uint16_t *interrupt);
 
 /* At most n steps, interrupts and changes of level included. *steps gets how many were taken, *reason why it ended
  * (ND110_STOPPED or ND110_SPENT). ND110_BAD_CALL, ND110_SIZES, ND110_STATE. */
@@ -106,6 +138,10 @@ uint16_t nd110_run_to_interrupt(uint16_t *state, size_t state_len, uint16_t *mem
  * ND110_BAD_CALL, ND110_SIZES, ND110_STATE, ND110_RAISE_LEVEL. */
 uint16_t nd110_raise(uint16_t *state, size_t state_len, uint16_t level, const uint16_t *memory,
                      size_t memory_len, const uint16_t *tables, size_t tables_len);
+
+/* The same raise on a record. ND110_SIZES, ND110_STATE, ND110_RAISE_LEVEL. */
+uint16_t nd110_raise_lent(nd110_state *state, uint16_t level, const uint16_t *memory, size_t memory_len,
+                          const uint16_t *tables, size_t tables_len);
 
 /* The machine of an image: words, not bytes (an image file has the high byte first). Words that the image does not name
  * become 0. The state's words before the call may be any.

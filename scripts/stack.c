@@ -16,7 +16,9 @@ static unsigned char stack[1 << 16];
 static unsigned char *from;
 static ucontext_t here, there;
 
-static uint16_t state[ND110_STATE_WORDS], memory[4 * ND110_PAGE_WORDS], tables[ND110_TABLE_WORDS];
+static uint16_t state[ND110_STATE_WORDS];
+static nd110_state record;
+static uint16_t memory[4 * ND110_PAGE_WORDS], tables[ND110_TABLE_WORDS];
 static uint16_t out[WORDS(memory) + ND110_IMAGE_EXTRA];
 static uint16_t interrupt, reason, answer;
 static uint64_t steps;
@@ -29,16 +31,18 @@ static uint64_t steps;
     } while (0)
 
 static void do_step(void) { CALL(nd110_step(LENT(state), LENT(memory), LENT(tables), &interrupt)); }
+static void do_step_lent(void) { CALL(nd110_step_lent(&record, LENT(memory), LENT(tables), &interrupt)); }
 static void do_run(void) { CALL(nd110_run(LENT(state), LENT(memory), LENT(tables), 100, &steps, &reason)); }
 static void do_to(void) { CALL(nd110_run_to_interrupt(LENT(state), LENT(memory), LENT(tables), 100, &steps, &reason)); }
 static void do_raise(void) { CALL(nd110_raise(LENT(state), 10, LENT(memory), LENT(tables))); }
+static void do_raise_lent(void) { CALL(nd110_raise_lent(&record, 10, LENT(memory), LENT(tables))); }
 static void do_load(void) { CALL(nd110_load(LENT(state), LENT(out), LENT(memory), LENT(tables))); }
 static void do_write(void) { CALL(nd110_write(LENT(state), LENT(memory), LENT(tables), LENT(out))); }
 static void do_view(void) { CALL(nd110_view(ND110_MEMORY, 0, 8, LENT(memory), LENT(tables), LENT(out))); }
 static void do_view_answer(void) { CALL(nd110_view_answer(ND110_MEMORY, 0, 8, LENT(memory), LENT(tables))); }
 
-/* Level 1 on ring 2 with paging on, page n at page n, everything permitted to ring 2. A shift of A and D, SRB of level 3
- * to address 1024, LRB of it, STF, MON 1, WAIT. */
+/* Level 1 on ring 2 with paging on, page n at page n, everything permitted to ring 2. A shift of A and D, SRB of level
+ * 3 to address 1024, LRB of it, STF, MON 1, WAIT. The record is the same state. */
 static void fill(void)
 {
     static const uint16_t program[] = { 0155601, 0152432, 0152630, 0030010, 0153001, 0151000 };
@@ -51,6 +55,7 @@ static void fill(void)
     state[ND110_CONTROL(ND110_PAGING_ON)] = 1;
     state[ND110_CONTROL(ND110_PCR) + 1] = 2;
     state[ND110_REGISTER(1, ND110_X)] = 1024;
+    memcpy(&record, state, sizeof(record));
 }
 
 static void expect(const char *name, int as_expected)
@@ -82,7 +87,11 @@ int main(void)
     fill();
     state[ND110_REGISTER(1, ND110_P)] = 1; /* SRB */
     show("nd110_step", do_step);
-    expect("SRB", interrupt == 0);
+    expect("SRB", interrupt == 0 && state[ND110_REGISTER(1, ND110_P)] == 2);
+    fill();
+    record.registers[1][ND110_P] = 1;
+    show("nd110_step_lent", do_step_lent);
+    expect("SRB on a record", interrupt == 0 && record.registers[1][ND110_P] == 2);
     fill();
     show("nd110_run", do_run);
     expect("the run", steps == 6 && reason == ND110_STOPPED);
@@ -91,6 +100,7 @@ int main(void)
     expect("the run to MON", steps == 5 && reason == ND110_INTERRUPTED);
     fill();
     show("nd110_raise", do_raise);
+    show("nd110_raise_lent", do_raise_lent);
     show("nd110_write", do_write);
     show("nd110_load", do_load);
     show("nd110_view", do_view);

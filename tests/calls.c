@@ -15,6 +15,9 @@
 /* The lent words, each with a word before and after it that no call may touch. */
 struct machine {
     uint16_t before_state, state[ND110_STATE_WORDS], after_state;
+    uint16_t before_record;
+    nd110_state record;
+    uint16_t after_record;
     uint16_t before_memory, memory[MEMORY_WORDS], after_memory;
     uint16_t before_tables, tables[ND110_TABLE_WORDS], after_tables;
     uint16_t before_out, out[IMAGE_WORDS + 1], after_out;
@@ -22,6 +25,7 @@ struct machine {
 static struct machine m;
 
 #define STATE m.state, WORDS(m.state)
+#define RECORD ND110_WORDS(&m.record)
 #define MEMORY m.memory, WORDS(m.memory)
 #define TABLES m.tables, WORDS(m.tables)
 #define OUT m.out, WORDS(m.out)
@@ -121,6 +125,29 @@ static void places(void)
     IS(ND110_CONTROL(ND110_PCR) + 15, 153);
 }
 
+/* Where a field of the record is, by document 01 too: two bytes a word. */
+static void fields(void)
+{
+    IS(sizeof(nd110_state), 2 * 154);
+    IS(offsetof(nd110_state, registers[0][0]), 2 * 0);
+    IS(offsetof(nd110_state, registers[0][7]), 2 * 7);
+    IS(offsetof(nd110_state, registers[2][5]), 2 * 21);
+    IS(offsetof(nd110_state, registers[14][6]), 2 * 118);
+    IS(offsetof(nd110_state, registers[15][7]), 2 * 127);
+    IS(offsetof(nd110_state, level), 2 * 128);
+    IS(offsetof(nd110_state, interrupts_on), 2 * 129);
+    IS(offsetof(nd110_state, paging_on), 2 * 130);
+    IS(offsetof(nd110_state, stopped), 2 * 131);
+    IS(offsetof(nd110_state, pid), 2 * 132);
+    IS(offsetof(nd110_state, pie), 2 * 133);
+    IS(offsetof(nd110_state, pvl), 2 * 134);
+    IS(offsetof(nd110_state, iid), 2 * 135);
+    IS(offsetof(nd110_state, iie), 2 * 136);
+    IS(offsetof(nd110_state, pgs), 2 * 137);
+    IS(offsetof(nd110_state, pcr[0]), 2 * 138);
+    IS(offsetof(nd110_state, pcr[15]), 2 * 153);
+}
+
 /* Every word lent holds something, so that what a call clears or leaves is seen. */
 static void fill(void)
 {
@@ -137,6 +164,8 @@ static void guards(void)
 {
     IS(m.before_state, GUARD);
     IS(m.after_state, GUARD);
+    IS(m.before_record, GUARD);
+    IS(m.after_record, GUARD);
     IS(m.before_memory, GUARD);
     IS(m.after_memory, GUARD);
     IS(m.before_tables, GUARD);
@@ -223,6 +252,76 @@ static void to_interrupt(void)
     guards();
 }
 
+/* The record's words, in image order. */
+#define RECORD_IS(...)                                  \
+    do {                                                \
+        uint16_t words[ND110_STATE_WORDS];              \
+        memcpy(words, &m.record, sizeof words);         \
+        ARE(words, __VA_ARGS__);                        \
+    } while (0)
+
+/* The same program on a record: a lent step for each instruction but MON, which a run takes; a raise of level 11 on the
+ * way; then WAIT with interrupts off, and a raise of level 15 on the machine that it stopped. */
+static void lent(void)
+{
+    fill();
+    IS(nd110_load(RECORD, IMAGE, MEMORY, TABLES), 0);
+    RECORD_IS({ A_2, 0321 }, { PIE, 010000 }, { IIE, 020 });
+    IS(nd110_step_lent(&m.record, MEMORY, TABLES, &interrupt[1]), 0);
+    IS(interrupt[1], 0);
+    RECORD_IS({ A_0, 5 }, { P_0, 1 }, { A_2, 0321 }, { PIE, 010000 }, { IIE, 020 });
+    IS(nd110_step_lent(&m.record, MEMORY, TABLES, &interrupt[1]), 0);
+    IS(m.record.registers[0][ND110_A], 010);
+    IS(m.record.registers[0][ND110_P], 2);
+    IS(nd110_run(RECORD, MEMORY, TABLES, 1, &steps[1], &reason[1]), 0);
+    IS(steps[1], 1);
+    IS(reason[1], 2);
+    RECORD_IS({ A_0, 010 }, { P_0, 3 }, { A_2, 0321 }, { T_14, 7 }, { PIE, 010000 }, { IID, 02 }, { IIE, 020 });
+    IS(nd110_raise_lent(&m.record, 11, MEMORY, TABLES), 0);
+    IS(m.record.pid, 004000);
+    IS(nd110_step_lent(&m.record, MEMORY, TABLES, &interrupt[1]), 0);
+    IS(interrupt[1], 4);
+    RECORD_IS({ A_0, 010 }, { P_0, 4 }, { A_2, 0321 }, { T_14, 7 }, { PID, 044000 }, { PIE, 010000 }, { IID, 022 },
+              { IIE, 020 });
+    IS(nd110_step_lent(&m.record, MEMORY, TABLES, &interrupt[1]), 0);
+    IS(interrupt[1], 0);
+    IS(m.record.stopped, 1);
+    IS(nd110_raise_lent(&m.record, 15, MEMORY, TABLES), 0);
+    RECORD_IS({ A_0, 010 }, { P_0, 5 }, { A_2, 0321 }, { T_14, 7 }, { STOPPED, 1 }, { PID, 0144000 }, { PIE, 010000 },
+              { IID, 022 }, { IIE, 020 });
+    ARE(m.memory, PROGRAM);
+    ARE(m.tables, { 3, 0111111 }, { 4, 022222 });
+    guards();
+}
+
+/* On level 2, STA * 3 to a page that is mapped, by a lent step: memory, the page's marks and P alone change. Then the
+ * change to level 14, which is due. */
+static void lent_store(void)
+{
+    fill();
+    IS(nd110_load(RECORD, IMAGE, MEMORY, TABLES), 0);
+    m.record.level = 2;
+    m.record.paging_on = 1;
+    m.record.pcr[2] = 2;
+    m.memory[0] = 004003;
+    m.tables[0] = 0162001;
+    m.memory[1024] = 004003;
+    IS(nd110_step_lent(&m.record, MEMORY, TABLES, &interrupt[1]), 0);
+    IS(interrupt[1], 0);
+    RECORD_IS({ 18, 1 }, { A_2, 0321 }, { LEVEL, 2 }, { ND110_CONTROL(ND110_PAGING_ON), 1 }, { PIE, 010000 },
+              { IIE, 020 }, { 140, 2 });
+    ARE(m.memory, { 0, 004003 }, { 1, 0172403 }, { 2, 0153007 }, { 3, 0160000 }, { 4, 0151000 }, { 5, 0123456 },
+        { 1024, 004003 }, { 1027, 0321 });
+    ARE(m.tables, { 0, 0176001 }, { 3, 0111111 }, { 4, 022222 });
+    m.record.interrupts_on = 1;
+    m.record.pid = m.record.pie = 040000;
+    IS(nd110_step_lent(&m.record, MEMORY, TABLES, &interrupt[1]), 0);
+    IS(interrupt[1], 0);
+    RECORD_IS({ 18, 1 }, { A_2, 0321 }, { LEVEL, 14 }, { ION, 1 }, { ND110_CONTROL(ND110_PAGING_ON), 1 },
+              { PID, 040000 }, { PIE, 040000 }, { ND110_CONTROL(ND110_PVL), 2 }, { IIE, 020 }, { 140, 2 });
+    guards();
+}
+
 static void viewed(void)
 {
     loaded();
@@ -287,7 +386,9 @@ static void refused(void)
     static const uint16_t sts[] = { 1, 2, 0, 0, 0, 1, 0400 };
     static struct machine was;
     const uint16_t *nowhere = NULL;
+    nd110_state *none = NULL;
     loaded();
+    memcpy(&m.record, m.state, sizeof m.record);
     interrupt[1] = reason[1] = 077;
     steps[1] = 0777;
     was = m;
@@ -301,6 +402,8 @@ static void refused(void)
     }
     for (size_t len = 0; len <= 2047; len += 2047) {
         IS(nd110_step(STATE, m.memory, len, TABLES, &interrupt[1]), 1);
+        IS(nd110_step_lent(&m.record, m.memory, len, TABLES, &interrupt[1]), 1);
+        IS(nd110_raise_lent(&m.record, 10, m.memory, len, TABLES), 1);
         IS(nd110_run(STATE, m.memory, len, TABLES, 10, &steps[1], &reason[1]), 1);
         IS(nd110_run_to_interrupt(STATE, m.memory, len, TABLES, 10, &steps[1], &reason[1]), 1);
         IS(nd110_raise(STATE, 10, m.memory, len, TABLES), 1);
@@ -310,6 +413,8 @@ static void refused(void)
         IS(nd110_view_answer(1, 0, 1, m.memory, len, TABLES), 1);
     }
     IS(nd110_step(STATE, MEMORY, m.tables, 255, &interrupt[1]), 1);
+    IS(nd110_step_lent(&m.record, MEMORY, m.tables, 255, &interrupt[1]), 1);
+    IS(nd110_raise_lent(&m.record, 10, MEMORY, m.tables, 255), 1);
     IS(nd110_run(STATE, MEMORY, m.tables, 255, 10, &steps[1], &reason[1]), 1);
     IS(nd110_run_to_interrupt(STATE, MEMORY, m.tables, 255, 10, &steps[1], &reason[1]), 1);
     IS(nd110_raise(STATE, 10, MEMORY, m.tables, 255), 1);
@@ -321,6 +426,11 @@ static void refused(void)
     IS(nd110_raise(STATE, 9, MEMORY, TABLES), 3);
     IS(nd110_raise(STATE, 14, MEMORY, TABLES), 3);
     IS(nd110_raise(STATE, 16, MEMORY, TABLES), 3);
+    IS(nd110_raise_lent(&m.record, 9, MEMORY, TABLES), 3);
+    IS(nd110_raise_lent(&m.record, 14, MEMORY, TABLES), 3);
+    IS(nd110_raise_lent(&m.record, 16, MEMORY, TABLES), 3);
+    IS(nd110_raise_lent(&m.record, 16, ND110_LENT(nowhere, MEMORY_WORDS), TABLES), 1);
+    IS(nd110_load(ND110_WORDS(none), IMAGE, MEMORY, TABLES), 255);
     IS(nd110_load(STATE, image, 0, MEMORY, TABLES), 4);
     IS(nd110_load(STATE, image, 25, MEMORY, TABLES), 4);
     IS(nd110_load(STATE, many, WORDS(many), MEMORY, TABLES), 4);
@@ -340,6 +450,10 @@ static void refused(void)
     IS(nd110_view_answer(4, SIZE_MAX, 2, MEMORY, TABLES), 9);
     IS(memcmp(&m, &was, sizeof m), 0);
     m.state[0] = was.state[0] = 0400;
+    m.record.pcr[15] = was.record.pcr[15] = 4;
+    IS(nd110_step_lent(&m.record, m.memory, 2047, TABLES, &interrupt[1]), 1);
+    IS(nd110_step_lent(&m.record, MEMORY, TABLES, &interrupt[1]), 2);
+    IS(nd110_raise_lent(&m.record, 9, MEMORY, TABLES), 2);
     IS(nd110_step(STATE, MEMORY, TABLES, &interrupt[1]), 2);
     IS(nd110_run(STATE, MEMORY, TABLES, 10, &steps[1], &reason[1]), 2);
     IS(nd110_run_to_interrupt(STATE, MEMORY, TABLES, 10, &steps[1], &reason[1]), 2);
@@ -355,8 +469,11 @@ static void refused(void)
 int main(void)
 {
     places();
+    fields();
     through();
     to_interrupt();
+    lent();
+    lent_store();
     viewed();
     written();
     refused();

@@ -9,14 +9,14 @@ use std::time::Instant;
 
 const USAGE: &str = "\
 usage: bench [STEPS]
-       bench ours STEPS [calls]
+       bench ours STEPS [calls | lent]
        bench rust STEPS [calls]
 
 Times the proved engine (ours) and the second engine (Rust) on mixed.octal, 30,000,000 steps a
 repetition unless said otherwise. The last line is 'ratio R', the median of our run over that of
 Rust's. With 'ours' or 'rust' it only runs that engine, for a profiler; with 'calls' by as many
-calls of the step. Built with the feature 'inlined' the second engine has forced inlining on the
-path of its step.";
+calls of the step, with 'lent' by as many of the lent step. Built with the feature 'inlined' the
+second engine has forced inlining on the path of its step.";
 
 const REPETITIONS: usize = 5;
 /// A repetition is so many slices of each engine, in turn, so that what disturbs the machine disturbs both.
@@ -30,21 +30,36 @@ struct Left {
     seconds: f64,
 }
 
-/// A run through, or as many calls of the step.
-fn ours(pages: usize, n: u64, single: bool) -> Left {
+/// How steps are taken: a run through, or as many calls of the step or of the lent step. The second engine has one.
+#[derive(Clone, Copy)]
+enum By {
+    Run,
+    Calls,
+    Lent,
+}
+
+fn ours(pages: usize, n: u64, by: By) -> Left {
     let Machine {
         mut state,
         mut memory,
         mut tables,
     } = machine(pages);
     let began = Instant::now();
-    if single {
-        for _ in 0..n {
-            nd110::step(&mut state, &mut memory, &mut tables).expect("no refusal");
+    match by {
+        By::Run => {
+            let ran = nd110::run(&mut state, &mut memory, &mut tables, n);
+            assert_eq!(ran, Ok((n, nd110::Reason::Spent)));
         }
-    } else {
-        let ran = nd110::run(&mut state, &mut memory, &mut tables, n);
-        assert_eq!(ran, Ok((n, nd110::Reason::Spent)));
+        By::Calls => {
+            for _ in 0..n {
+                nd110::step(&mut state, &mut memory, &mut tables).expect("no refusal");
+            }
+        }
+        By::Lent => {
+            for _ in 0..n {
+                nd110::step_lent(&mut state, &mut memory, &mut tables).expect("no refusal");
+            }
+        }
     }
     let seconds = began.elapsed().as_secs_f64();
     Left {
@@ -55,18 +70,21 @@ fn ours(pages: usize, n: u64, single: bool) -> Left {
     }
 }
 
-fn rust(pages: usize, n: u64, single: bool) -> Left {
+fn rust(pages: usize, n: u64, by: By) -> Left {
     let start = machine(pages);
     let mut state = State::from_words(&start.state.0);
     let (mut memory, mut tables) = (start.memory, start.tables);
     let began = Instant::now();
-    if single {
-        for _ in 0..n {
-            second::step(&mut state, &mut memory, &mut tables).expect("no refusal");
+    match by {
+        By::Run => {
+            let ran = second::run(&mut state, &mut memory, &mut tables, n, false);
+            assert_eq!(ran, Ok((n, second::Reason::Spent)));
         }
-    } else {
-        let ran = second::run(&mut state, &mut memory, &mut tables, n, false);
-        assert_eq!(ran, Ok((n, second::Reason::Spent)));
+        By::Calls | By::Lent => {
+            for _ in 0..n {
+                second::step(&mut state, &mut memory, &mut tables).expect("no refusal");
+            }
+        }
     }
     let seconds = began.elapsed().as_secs_f64();
     Left {
@@ -160,7 +178,7 @@ fn growth(steps: u64) {
     let time = |pages, n| {
         median(
             (0..REPETITIONS)
-                .map(|_| ours(pages, n, false).seconds)
+                .map(|_| ours(pages, n, By::Run).seconds)
                 .collect(),
         )
     };
@@ -191,39 +209,40 @@ fn compare(steps: u64) {
         || our_images(64, 10),
         || rust_images(64, 10),
     );
-    both(
-        "step calls",
-        calls,
-        || ours(64, calls, true),
-        || rust(64, calls, true),
-    );
+    for (label, by) in [("step calls", By::Calls), ("lent step calls", By::Lent)] {
+        both(label, calls, || ours(64, calls, by), || rust(64, calls, by));
+    }
     growth(few);
     let ratio = both(
         "run",
         slice,
-        || ours(64, slice, false),
-        || rust(64, slice, false),
+        || ours(64, slice, By::Run),
+        || rust(64, slice, By::Run),
     );
     println!("ratio {ratio:.3}");
 }
 
 fn main() -> ExitCode {
     cli::run(USAGE, |mut args| {
-        let engine: fn(usize, u64, bool) -> Left = if args.next_is("ours") {
-            ours
-        } else if args.next_is("rust") {
-            rust
-        } else {
+        let is_ours = args.next_is("ours");
+        if !is_ours && !args.next_is("rust") {
             let steps = args.optional_number("STEPS", 1..=u64::MAX)?;
             args.end()?;
             compare(steps.unwrap_or(30_000_000));
             return Ok(());
-        };
+        }
         let steps = args.number("STEPS", 1..=u64::MAX)?;
-        let single = args.next_is("calls");
+        let by = if args.next_is("calls") {
+            By::Calls
+        } else if is_ours && args.next_is("lent") {
+            By::Lent
+        } else {
+            By::Run
+        };
         args.end()?;
+        let engine = if is_ours { ours } else { rust };
         let p = nd110::Register::P as usize;
-        println!("{}", engine(64, steps, single).words[p]);
+        println!("{}", engine(64, steps, by).words[p]);
         Ok(())
     })
 }

@@ -1,6 +1,6 @@
 //! One operation on both engines, and whether they agree.
 
-use nd110::State as Words;
+use nd110::{Refusal, State as Words};
 use second::vectors::Start;
 use second::{Interrupt, Reason, State};
 
@@ -63,6 +63,17 @@ impl Both {
     /// A step of both. Err has what they answered, if that differs.
     pub fn step(&mut self) -> Result<(), Answers> {
         let ours = nd110::step(&mut self.ours, &mut self.our_memory, &mut self.our_tables);
+        self.step_as(ours)
+    }
+
+    /// A step of both, ours of the state lent.
+    pub fn step_lent(&mut self) -> Result<(), Answers> {
+        let ours = nd110::step_lent(&mut self.ours, &mut self.our_memory, &mut self.our_tables);
+        self.step_as(ours)
+    }
+
+    /// The other's step, held to what ours answered.
+    fn step_as(&mut self, ours: Result<u16, Refusal>) -> Result<(), Answers> {
         let them = &mut self.theirs;
         let theirs = second::step(&mut them.state, &mut them.memory, &mut them.tables);
         let agreed = match (&ours, &theirs) {
@@ -107,8 +118,20 @@ impl Both {
         Ok(ours.map_or(0, |(n, _)| n))
     }
 
+    /// A raise of both.
     pub fn raise(&mut self, level: u16) -> Result<(), Answers> {
         let ours = nd110::raise(&mut self.ours, level, &self.our_memory, &self.our_tables);
+        self.raise_as(level, ours)
+    }
+
+    /// A raise of both, ours of the state lent.
+    pub fn raise_lent(&mut self, level: u16) -> Result<(), Answers> {
+        let ours = nd110::raise_lent(&mut self.ours, level, &self.our_memory, &self.our_tables);
+        self.raise_as(level, ours)
+    }
+
+    /// The other's raise, held to what ours answered.
+    fn raise_as(&mut self, level: u16, ours: Result<(), Refusal>) -> Result<(), Answers> {
         let them = &mut self.theirs;
         let theirs = second::raise(&mut them.state, &them.memory, &them.tables, level);
         let ours = ours.map_err(|r| r.number());

@@ -15,16 +15,27 @@ const USAGE: &str = "\
 usage: compare SEED STEPS
 
 Follows the proved engine and the second engine on random machines and programs, half of them step
-by step and half in runs of some steps each, and compares whole states after every step or run. The
-same seed gives the same machines. The last line is 'N steps compared, M differences'.";
+by step and half in runs of some steps each, and compares whole states after every step or run.
+Every second program that is followed step by step is so by lent steps and raises. The same seed
+gives the same machines. The last line is 'N steps compared, M differences'.";
 
 /// Steps that a program is followed.
 const LENGTH: u64 = 64;
 /// Most steps of one run of a program that is followed in runs.
 const RUN: u64 = 24;
 
+/// How a program is followed: by runs of some steps each, by steps, or by lent steps.
+#[derive(Clone, Copy, PartialEq)]
+enum By {
+    Runs,
+    Steps,
+    Lent,
+}
+
 struct Tally {
     steps: u64,
+    /// Programs followed step by step.
+    stepped: u64,
     differences: u64,
 }
 
@@ -49,18 +60,34 @@ impl Tally {
         }
     }
 
+    /// How the next program is followed. The two forms of a step take turns and are not drawn, so that a seed gives the
+    /// machines that it gave before.
+    fn by(&mut self, in_runs: bool) -> By {
+        if in_runs {
+            return By::Runs;
+        }
+        self.stepped += 1;
+        if self.stepped.is_multiple_of(2) {
+            By::Lent
+        } else {
+            By::Steps
+        }
+    }
+
     /// Step by step, or in runs of some steps each, with what a host does in between. What an engine keeps from one
     /// step of a run to the next shows in runs alone. A step that changes nothing ends it.
-    fn follow(&mut self, random: &mut Random, start: &Start, in_runs: bool) {
+    fn follow(&mut self, random: &mut Random, start: &Start, by: By) {
         let mut both = Both::new(start);
         let mut left = LENGTH;
         while left > 0 {
             let before = both.theirs.clone();
-            let (taken, answers) = if in_runs {
-                let steps = 1 + random.below(RUN.min(left));
-                (Taken::Run(steps), both.run(steps, false))
-            } else {
-                (Taken::Step, both.step().map(|()| 1))
+            let (taken, answers) = match by {
+                By::Runs => {
+                    let steps = 1 + random.below(RUN.min(left));
+                    (Taken::Run(steps), both.run(steps, false))
+                }
+                By::Steps => (Taken::Step, both.step().map(|()| 1)),
+                By::Lent => (Taken::Lent, both.step_lent().map(|()| 1)),
             };
             let steps = *answers.as_ref().unwrap_or(&1);
             self.steps += steps;
@@ -68,19 +95,23 @@ impl Tally {
                 self.differ("steps", || report::print(&before, taken));
                 return;
             }
-            if steps == 0 || !in_runs && both.theirs == before {
+            if steps == 0 || by != By::Runs && both.theirs == before {
                 return;
             }
             left -= steps;
-            self.host(random, &mut both);
+            self.host(random, &mut both, by);
         }
     }
 
     /// What a host does between two steps: nothing, a device's interrupt, or a register of the running level set.
-    fn host(&mut self, random: &mut Random, both: &mut Both) {
+    fn host(&mut self, random: &mut Random, both: &mut Both, by: By) {
         match random.below(16) {
             0 => {
-                let answers = both.raise(random.below(17) as u16);
+                let level = random.below(17) as u16;
+                let answers = match by {
+                    By::Lent => both.raise_lent(level),
+                    By::Runs | By::Steps => both.raise(level),
+                };
                 self.note("raise", answers, both);
             }
             1..=4 => {
@@ -109,6 +140,9 @@ impl Tally {
         }
         let mut damaged = start.clone();
         programs::damage(random, &mut damaged);
+        let mut both = Both::new(&damaged);
+        let answers = both.step_lent();
+        self.note("a lent step of any state", answers, &both);
         let mut both = Both::new(&damaged);
         let answers = both.step();
         self.note("a step of any state", answers, &both);
@@ -143,13 +177,14 @@ fn main() -> ExitCode {
         let pool = programs::pool(&mut random);
         let mut tally = Tally {
             steps: 0,
+            stepped: 0,
             differences: 0,
         };
         let mut told = Instant::now();
         while tally.steps < steps {
             let start = programs::start(&mut random, &pool);
-            let in_runs = random.one_in(2);
-            tally.follow(&mut random, &start, in_runs);
+            let by = tally.by(random.one_in(2));
+            tally.follow(&mut random, &start, by);
             tally.operations(&mut random, &start);
             if told.elapsed() > Duration::from_secs(10) {
                 eprintln!(

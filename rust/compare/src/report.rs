@@ -4,10 +4,11 @@ use compare::engines::{Answers, Both};
 use second::vectors::Start;
 use second::{PAGE, State, disassemble, next_word};
 
-/// Steps of both from here: a call of the step, or a run of so many.
+/// Steps of both from here: a call of the step or of the lent step, or a run of so many.
 #[derive(Clone, Copy)]
 pub enum Taken {
     Step,
+    Lent,
     Run(u64),
 }
 
@@ -15,6 +16,7 @@ impl Taken {
     fn by(self, both: &mut Both) -> Result<(), Answers> {
         match self {
             Taken::Step => both.step(),
+            Taken::Lent => both.step_lent(),
             Taken::Run(steps) => both.run(steps, false).map(|_| ()),
         }
     }
@@ -123,8 +125,10 @@ fn image(start: &Start) -> Vec<u16> {
 pub fn print(start: &Start, taken: Taken) {
     let mut start = start.clone();
     shrink(&mut start, |smaller| differs(smaller, taken));
-    if let Taken::Run(steps) = taken {
-        println!("in a run of {steps} steps");
+    match taken {
+        Taken::Step => {}
+        Taken::Lent => println!("in a lent step"),
+        Taken::Run(steps) => println!("in a run of {steps} steps"),
     }
     println!(
         "difference, with {} pages, from the image (octal words)",

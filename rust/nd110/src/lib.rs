@@ -2,19 +2,37 @@
 //!
 //! Each function calls the static library's function of the same name. What the library cannot see for itself, slices
 //! of Rust ensure: they are not null, as long as they say, and do not overlap. So no call here is unsafe.
-//! `examples/host.rs` shows their use.
+//!
+//! The functions take the machine in its three pieces, for a host that keeps them where it must. A [`Machine`] owns
+//! them; its methods are the same operations. `examples/host.rs` shows its use.
+//!
+//! ```
+//! use nd110::{Machine, Reason, Register};
+//!
+//! // SAA 5, AAA 3, WAIT: one entry, memory from 0 on, three words
+//! let image = [1, 1, 0, 0, 0, 3, 0o170405, 0o172403, 0o151000];
+//! let mut machine = Machine::load(&image, 16)?;
+//! assert_eq!(machine.step()?, 0);
+//! assert_eq!(machine.run(1000)?, (2, Reason::Stopped));
+//! assert_eq!(machine.register(0, Register::A), 0o10);
+//! # Ok::<(), nd110::Refusal>(())
+//! ```
 
 #[allow(unsafe_code)]
 mod library;
+mod machine;
 mod numbers;
 
+pub use machine::Machine;
 pub use numbers::{
     Control, IMAGE_EXTRA, MEMORY_MOST, PAGE_WORDS, Reason, Refusal, Register, STATE_WORDS,
     TABLE_WORDS, Target, VERSION,
 };
 
-/// A state as words in image order: register n of a level is word 8 * level + n, control word n is word 128 + n.
+/// A state as words in image order: register n of a level is word 8 * level + n, control word n is word 128 + n. It is
+/// these words alone, so it is also the record that `step_lent` and `raise_lent` lend.
 #[derive(Clone, Copy, Debug, PartialEq, Eq)]
+#[repr(transparent)]
 pub struct State(pub [u16; STATE_WORDS]);
 
 impl State {
@@ -75,6 +93,17 @@ pub fn step(state: &mut State, memory: &mut [u16], tables: &mut [u16]) -> Result
     Ok(interrupt)
 }
 
+/// The same step, the state lent as a record and updated in place. Refuses 1, 2.
+pub fn step_lent(
+    state: &mut State,
+    memory: &mut [u16],
+    tables: &mut [u16],
+) -> Result<u16, Refusal> {
+    let mut interrupt = 0;
+    answer(library::step_lent(state, memory, tables, &mut interrupt))?;
+    Ok(interrupt)
+}
+
 /// At most `steps` steps, interrupts and changes of level included; answers steps taken and why it ended. Refuses 1, 2.
 pub fn run(
     state: &mut State,
@@ -103,6 +132,16 @@ pub fn run_to_interrupt(
 /// A device raises a level. Refuses 1, 2, 3.
 pub fn raise(state: &mut State, level: u16, memory: &[u16], tables: &[u16]) -> Result<(), Refusal> {
     answer(library::raise(&mut state.0, level, memory, tables))
+}
+
+/// The same raise, the state lent as a record and updated in place. Refuses 1, 2, 3.
+pub fn raise_lent(
+    state: &mut State,
+    level: u16,
+    memory: &[u16],
+    tables: &[u16],
+) -> Result<(), Refusal> {
+    answer(library::raise_lent(state, level, memory, tables))
 }
 
 /// The words of an image file, which has the high byte first. An odd count of bytes is refused 8.

@@ -1,11 +1,23 @@
 //! The static library's functions: the one declaration of them, and a safe call of each. A slice goes as place and
-//! length. `tests/header.rs` holds the declaration to include/nd110.h.
+//! length, a state that is lent as the place of its record. `tests/header.rs` holds the declaration to include/nd110.h.
+
+use crate::State;
 
 mod raw {
+    use super::State;
+
     unsafe extern "C" {
         pub fn nd110_step(
             state: *mut u16,
             state_len: usize,
+            memory: *mut u16,
+            memory_len: usize,
+            tables: *mut u16,
+            tables_len: usize,
+            interrupt: *mut u16,
+        ) -> u16;
+        pub fn nd110_step_lent(
+            state: *mut State,
             memory: *mut u16,
             memory_len: usize,
             tables: *mut u16,
@@ -37,6 +49,14 @@ mod raw {
         pub fn nd110_raise(
             state: *mut u16,
             state_len: usize,
+            level: u16,
+            memory: *const u16,
+            memory_len: usize,
+            tables: *const u16,
+            tables_len: usize,
+        ) -> u16;
+        pub fn nd110_raise_lent(
+            state: *mut State,
             level: u16,
             memory: *const u16,
             memory_len: usize,
@@ -87,13 +107,32 @@ mod raw {
 }
 
 // SAFETY of every call below: the places and lengths are those of slices, which are valid, and apart where one is
-// written; the library is proved to stay within them.
+// written; the library is proved to stay within them. A record's place is that of a `State`, which is exactly its 154
+// words (`repr(transparent)`), in the order of the header's nd110_state.
 
 pub fn step(state: &mut [u16], memory: &mut [u16], tables: &mut [u16], interrupt: &mut u16) -> u16 {
     unsafe {
         raw::nd110_step(
             state.as_mut_ptr(),
             state.len(),
+            memory.as_mut_ptr(),
+            memory.len(),
+            tables.as_mut_ptr(),
+            tables.len(),
+            interrupt,
+        )
+    }
+}
+
+pub fn step_lent(
+    state: &mut State,
+    memory: &mut [u16],
+    tables: &mut [u16],
+    interrupt: &mut u16,
+) -> u16 {
+    unsafe {
+        raw::nd110_step_lent(
+            state,
             memory.as_mut_ptr(),
             memory.len(),
             tables.as_mut_ptr(),
@@ -154,6 +193,19 @@ pub fn raise(state: &mut [u16], level: u16, memory: &[u16], tables: &[u16]) -> u
         raw::nd110_raise(
             state.as_mut_ptr(),
             state.len(),
+            level,
+            memory.as_ptr(),
+            memory.len(),
+            tables.as_ptr(),
+            tables.len(),
+        )
+    }
+}
+
+pub fn raise_lent(state: &mut State, level: u16, memory: &[u16], tables: &[u16]) -> u16 {
+    unsafe {
+        raw::nd110_raise_lent(
+            state,
             level,
             memory.as_ptr(),
             memory.len(),

@@ -3,7 +3,7 @@
 
 use nd110::{
     IMAGE_EXTRA, PAGE_WORDS, Reason, Refusal, STATE_WORDS, State, TABLE_WORDS, Target, image_words,
-    load, raise, run, run_to_interrupt, step, view, view_into, write,
+    load, raise, raise_lent, run, run_to_interrupt, step, step_lent, view, view_into, write,
 };
 
 const MEMORY: usize = 2 * PAGE_WORDS;
@@ -99,6 +99,10 @@ impl Machine {
         step(&mut self.state, &mut self.memory, &mut self.tables)
     }
 
+    fn step_lent(&mut self) -> Result<u16, Refusal> {
+        step_lent(&mut self.state, &mut self.memory, &mut self.tables)
+    }
+
     fn run(&mut self, steps: u64) -> Result<(u64, Reason), Refusal> {
         run(&mut self.state, &mut self.memory, &mut self.tables, steps)
     }
@@ -109,6 +113,10 @@ impl Machine {
 
     fn raise(&mut self, level: u16) -> Result<(), Refusal> {
         raise(&mut self.state, level, &self.memory, &self.tables)
+    }
+
+    fn raise_lent(&mut self, level: u16) -> Result<(), Refusal> {
+        raise_lent(&mut self.state, level, &self.memory, &self.tables)
     }
 
     fn write(&self, out: &mut [u16]) -> Result<(), Refusal> {
@@ -123,9 +131,11 @@ impl Machine {
     fn refuses_all(&mut self, refusal: Refusal) {
         let was = self.clone();
         assert_eq!(self.step(), Err(refusal));
+        assert_eq!(self.step_lent(), Err(refusal));
         assert_eq!(self.run(10), Err(refusal));
         assert_eq!(self.run_to_interrupt(10), Err(refusal));
         assert_eq!(self.raise(10), Err(refusal));
+        assert_eq!(self.raise_lent(10), Err(refusal));
         let mut out = vec![FILLED; self.memory.len() + IMAGE_EXTRA];
         assert_eq!(self.write(&mut out), Err(refusal));
         assert!(out.iter().all(|word| *word == FILLED));
@@ -172,6 +182,32 @@ fn to_interrupt() {
     m.is(&[a, p, a_2, t_14, ion, pid, pie, iid, iie]);
     assert_eq!(m.run(1), Ok((1, Reason::Spent)));
     m.is(&[a, p, a_2, t_14, (LEVEL, 14), ion, pid, pie, iid, iie]);
+}
+
+/// The same program by lent steps, and a raise on the way: SAA 5, AAA 3, MON 7, level 11, the illegal word, WAIT, level
+/// 15 on the machine that it stopped.
+#[test]
+fn lent() {
+    let mut m = Machine::loaded();
+    let (a_2, pie, iie, t_14) = ((A_2, 0o321), (PIE, 0o10000), (IIE, 0o20), (T_14, 7));
+    assert_eq!(m.step_lent(), Ok(0));
+    m.is(&[(A_0, 5), (P_0, 1), a_2, pie, iie]);
+    assert_eq!(m.step_lent(), Ok(0));
+    m.is(&[(A_0, 0o10), (P_0, 2), a_2, pie, iie]);
+    assert_eq!(m.step_lent(), Ok(1));
+    let a = (A_0, 0o10);
+    m.is(&[a, (P_0, 3), a_2, t_14, pie, (IID, 2), iie]);
+    assert_eq!(m.raise_lent(11), Ok(()));
+    m.is(&[a, (P_0, 3), a_2, t_14, (PID, 0o4000), pie, (IID, 2), iie]);
+    assert_eq!(m.step_lent(), Ok(4));
+    let (pid, iid) = ((PID, 0o44000), (IID, 0o22));
+    m.is(&[a, (P_0, 4), a_2, t_14, pid, pie, iid, iie]);
+    assert_eq!(m.step_lent(), Ok(0));
+    let (p, stopped) = ((P_0, 5), (STOPPED, 1));
+    m.is(&[a, p, a_2, t_14, stopped, pid, pie, iid, iie]);
+    assert_eq!(m.raise_lent(15), Ok(()));
+    let pid = (PID, 0o144000);
+    m.is(&[a, p, a_2, t_14, stopped, pid, pie, iid, iie]);
 }
 
 #[test]
@@ -248,6 +284,7 @@ fn refused() {
     let mut m = loaded.clone();
     for level in [0, 9, 14, 16] {
         assert_eq!(m.raise(level), Err(Refusal::RaiseLevel));
+        assert_eq!(m.raise_lent(level), Err(Refusal::RaiseLevel));
     }
     let mut out = [FILLED; MEMORY + IMAGE_EXTRA - 1];
     assert_eq!(m.write(&mut out), Err(Refusal::Output));

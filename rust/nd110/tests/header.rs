@@ -35,6 +35,7 @@ fn argument_of_c(text: &str) -> (String, String) {
         "uint64_t" => "u64",
         "uint16_t *" => "*mut u16",
         "uint64_t *" => "*mut u64",
+        "nd110_state *" => "*mut State",
         "const uint16_t *" => "*const u16",
         other => panic!("unknown C type '{other}' of '{name}'"),
     };
@@ -155,6 +156,22 @@ fn enumerated() -> Vec<Vec<String>> {
         .collect()
 }
 
+const CONTROLS: [Control; PCR] = {
+    use Control::*;
+    [
+        Level,
+        InterruptsOn,
+        PagingOn,
+        Stopped,
+        Pid,
+        Pie,
+        Pvl,
+        Iid,
+        Iie,
+        Pgs,
+    ]
+};
+
 #[test]
 fn places() {
     use Control::*;
@@ -168,18 +185,6 @@ fn places() {
         Register::T,
         Register::X,
     ];
-    let controls = [
-        Level,
-        InterruptsOn,
-        PagingOn,
-        Stopped,
-        Pid,
-        Pie,
-        Pvl,
-        Iid,
-        Iie,
-        Pgs,
-    ];
     let [ours, control] = &enumerated()[..] else {
         panic!("two lists of names");
     };
@@ -188,8 +193,8 @@ fn places() {
         assert_eq!(register as usize, at);
         assert_eq!(ours[at], format!("ND110_{}", upper(&register)));
     }
-    assert_eq!(control.len(), controls.len() + 1);
-    for (at, word) in controls.into_iter().enumerate() {
+    assert_eq!(control.len(), CONTROLS.len() + 1);
+    for (at, word) in CONTROLS.into_iter().enumerate() {
         assert_eq!(word as usize, at);
         let name = match word {
             Level => "CONTROL_LEVEL".to_string(),
@@ -199,4 +204,29 @@ fn places() {
         assert_eq!(control[at], format!("ND110_{name}"));
     }
     assert_eq!(control[PCR], "ND110_PCR");
+}
+
+/// The fields of the header's record: each `uint16_t ..;`.
+fn fields() -> Vec<String> {
+    let code = code(HEADER);
+    let (_, rest) = code
+        .split_once("typedef struct nd110_state {")
+        .expect("a record");
+    let (fields, _) = rest.split_once("} nd110_state;").expect("its end");
+    fields
+        .split(';')
+        .map(str::trim)
+        .filter(|field| !field.is_empty())
+        .map(|field| field.strip_prefix("uint16_t ").expect("words").to_string())
+        .collect()
+}
+
+/// The record is the state in image order: registers of sixteen levels, the control words, the PCRs.
+#[test]
+fn record() {
+    let mut ours = vec!["registers[16][8]".to_string()];
+    ours.extend(CONTROLS.iter().map(|word| upper(word).to_lowercase()));
+    ours.push("pcr[16]".to_string());
+    assert_eq!(fields(), ours);
+    assert_eq!(16 * 8 + CONTROLS.len() + 16, STATE_WORDS);
 }

@@ -1,0 +1,531 @@
+//! The machine lent: `step_lent` and `raise_lent`, and `Machine`, which owns its words. Long runs compare these forms
+//! with `step` and the other plain functions, word for word after each call; what is refused, and which PID bit a raise
+//! sets, is written by hand from document 01.
+
+use nd110::{
+    Control, IMAGE_EXTRA, MEMORY_MOST, Machine, PAGE_WORDS, Reason, Refusal, Register, STATE_WORDS,
+    State, TABLE_WORDS, Target, load, raise, raise_lent, run, run_to_interrupt, step, step_lent,
+    view, write,
+};
+
+// State words: registers at 8 * level + number, control words from 128 on, the PCRs last.
+const P_0: usize = 2;
+const LEVEL: usize = 128;
+const INTERRUPTS: usize = 129;
+const PAGING: usize = 130;
+const STOPPED: usize = 131;
+const PID: usize = 132;
+const PCR: usize = 138;
+
+/// The bits that a control word may have, by document 01: level, interrupts on, paging on, stopped, PID, PIE, PVL, IID,
+/// IIE, PGS, then sixteen PCRs. A word is in range if it has no other bit.
+const CONTROL_BITS: [u16; 26] = {
+    let mut bits = [0o003603; 26];
+    let first = [
+        0o17, 1, 1, 1, 0o177777, 0o177777, 0o17, 0o3776, 0o3776, 0o140377,
+    ];
+    let mut at = 0;
+    while at < first.len() {
+        bits[at] = first[at];
+        at += 1;
+    }
+    bits
+};
+
+/// A small seeded generator (xorshift).
+struct Random(u64);
+
+impl Random {
+    fn draw(&mut self) -> u64 {
+        self.0 ^= self.0 << 13;
+        self.0 ^= self.0 >> 7;
+        self.0 ^= self.0 << 17;
+        self.0
+    }
+
+    fn word(&mut self) -> u16 {
+        (self.draw() >> 24) as u16
+    }
+
+    /// 0 to n - 1.
+    fn below(&mut self, n: u16) -> u16 {
+        self.word() % n
+    }
+}
+
+/// A machine in its three pieces.
+#[derive(Clone, PartialEq)]
+struct Pieces {
+    state: State,
+    memory: Vec<u16>,
+    tables: Vec<u16>,
+}
+
+impl Pieces {
+    /// Pages of memory, every word 0.
+    fn new(pages: usize) -> Pieces {
+        Pieces {
+            state: State::new(),
+            memory: vec![0; pages * PAGE_WORDS],
+            tables: vec![0; TABLE_WORDS],
+        }
+    }
+
+    /// Any words; control words in range, paging mostly on, most levels on ring 3; entries that mostly permit all, in
+    /// pages that are there. One in sixteen has 64 pages, so that it can go on with paging off.
+    fn random(random: &mut Random) -> Pieces {
+        let pages = match random.below(16) {
+            0 => 64,
+            _ => 1 + random.below(4),
+        };
+        let mut m = Pieces::new(usize::from(pages));
+        m.state.0.fill_with(|| random.word());
+        m.memory.fill_with(|| random.word());
+        for sts in m.state.0[..LEVEL].iter_mut().step_by(8) {
+            *sts &= 0o377;
+        }
+        for (word, bits) in m.state.0[LEVEL..].iter_mut().zip(CONTROL_BITS) {
+            *word &= bits;
+        }
+        for pcr in &mut m.state.0[PCR..] {
+            *pcr |= [0, 3][usize::from(random.below(2))];
+        }
+        m.state.0[PAGING] |= random.below(2);
+        m.state.0[STOPPED] = 0;
+        for entry in &mut m.tables {
+            let permits = [7, 7, 7, random.below(8)][usize::from(random.below(4))];
+            let ring = [0, 0, 0, random.below(4)][usize::from(random.below(4))];
+            *entry = permits << 13 | ring << 9 | random.below(pages);
+        }
+        m
+    }
+
+    fn step(&mut self) -> Result<u16, Refusal> {
+        step(&mut self.state, &mut self.memory, &mut self.tables)
+    }
+
+    fn step_lent(&mut self) -> Result<u16, Refusal> {
+        step_lent(&mut self.state, &mut self.memory, &mut self.tables)
+    }
+
+    fn raise(&mut self, level: u16) -> Result<(), Refusal> {
+        raise(&mut self.state, level, &self.memory, &self.tables)
+    }
+
+    fn raise_lent(&mut self, level: u16) -> Result<(), Refusal> {
+        raise_lent(&mut self.state, level, &self.memory, &self.tables)
+    }
+
+    /// The same machine, owned.
+    fn owned(&self) -> Machine {
+        let mut machine = Machine::new(self.memory.len() / PAGE_WORDS).unwrap();
+        *machine.state_mut() = self.state;
+        machine.memory_mut().copy_from_slice(&self.memory);
+        machine.tables_mut().copy_from_slice(&self.tables);
+        machine
+    }
+
+    fn is(&self, machine: &Machine) -> bool {
+        self.state == *machine.state()
+            && self.memory == machine.memory()
+            && self.tables == machine.tables()
+    }
+}
+
+/// One machine by each of the three forms of the step.
+struct Three {
+    plain: Pieces,
+    lent: Pieces,
+    owned: Machine,
+}
+
+/// What a run had in it.
+#[derive(Default)]
+struct Seen {
+    /// Steps by the interrupt that they gave, 0 if none.
+    interrupts: [u32; 10],
+    changes: u32,
+    raises: u32,
+    stores: u32,
+    tables: u32,
+}
+
+impl Three {
+    fn new(start: Pieces) -> Three {
+        Three {
+            lent: start.clone(),
+            owned: start.owned(),
+            plain: start,
+        }
+    }
+
+    fn equal(&self) {
+        assert_eq!(self.lent.state, self.plain.state);
+        assert!(self.lent == self.plain, "memory or page tables of lent");
+        assert!(self.plain.is(&self.owned), "the machine that is owned");
+    }
+
+    /// A step of each; answers what it gave.
+    fn step(&mut self, seen: &mut Seen) -> u16 {
+        let was = self.plain.clone();
+        let answer = self.plain.step();
+        assert_eq!(self.lent.step_lent(), answer);
+        assert_eq!(self.owned.step(), answer);
+        self.equal();
+        let interrupt = answer.unwrap();
+        seen.interrupts[usize::from(interrupt)] += 1;
+        seen.changes += u32::from(was.state.0[LEVEL] != self.plain.state.0[LEVEL]);
+        seen.stores += u32::from(was.memory != self.plain.memory);
+        seen.tables += u32::from(was.tables != self.plain.tables);
+        interrupt
+    }
+
+    /// A state word stored by the host.
+    fn store(&mut self, at: usize, word: u16) {
+        self.plain.state.0[at] = word;
+        self.lent.state.0[at] = word;
+        self.owned.state_mut().0[at] = word;
+    }
+
+    /// What a host does between two steps: now and then a raise, of a level that may be refused, and rarely other
+    /// levels pending. A machine that has stopped or given an interrupt goes on elsewhere.
+    fn host(&mut self, random: &mut Random, seen: &mut Seen, interrupt: u16) {
+        if random.below(16) == 0 {
+            let level = random.below(17);
+            let answer = self.plain.raise(level);
+            assert_eq!(self.lent.raise_lent(level), answer);
+            assert_eq!(self.owned.raise(level), answer);
+            seen.raises += u32::from(answer.is_ok());
+            self.equal();
+        }
+        if random.below(64) == 0 {
+            self.store(PID, random.word());
+            self.store(INTERRUPTS, random.below(2));
+        }
+        let stopped = self.plain.state.0[STOPPED] != 0;
+        if (stopped || interrupt != 0) && random.below(4) != 0 {
+            let level = usize::from(self.plain.state.0[LEVEL]);
+            self.store(STOPPED, 0);
+            self.store(8 * level + P_0, random.word());
+        }
+    }
+}
+
+/// The benchmark's mixed image: every step does something, none gives an interrupt.
+#[test]
+fn mixed() {
+    const STEPS: u32 = 50_000;
+    let image = cli::octal::words(include_str!("../../bench/mixed.octal")).expect("octal text");
+    let mut start = Pieces::new(64);
+    start.state = load(&image, &mut start.memory, &mut start.tables).expect("an image");
+    let mut three = Three::new(start);
+    let mut seen = Seen::default();
+    for _ in 0..STEPS {
+        let was = three.lent.state;
+        assert_eq!(three.step(&mut seen), 0);
+        assert_ne!(was, three.lent.state);
+    }
+    assert!(seen.stores > STEPS / 100, "{} stores", seen.stores);
+}
+
+/// Machines of any words, with a host that raises levels. Every interrupt that there is comes: 1 to 7 and 9.
+#[test]
+fn random_machines() {
+    let mut random = Random(0x2545_f491_4f6c_dd1d);
+    let mut seen = Seen::default();
+    for _ in 0..1000 {
+        let mut three = Three::new(Pieces::random(&mut random));
+        for _ in 0..250 {
+            let interrupt = three.step(&mut seen);
+            three.host(&mut random, &mut seen, interrupt);
+        }
+    }
+    for (interrupt, count) in seen.interrupts.into_iter().enumerate() {
+        assert_eq!(count != 0, interrupt != 8, "interrupt {interrupt}");
+    }
+    for (what, count) in [
+        ("steps without interrupt", seen.interrupts[0]),
+        ("changes of level", seen.changes),
+        ("raises", seen.raises),
+        ("stores to memory", seen.stores),
+        ("stores to page tables", seen.tables),
+    ] {
+        assert!(count > 1000, "{count} {what}");
+    }
+}
+
+/// Both lent calls are refused with this number, whichever level a raise names, and each leaves every word.
+fn refused(m: &mut Pieces, was: &Pieces, refusal: Refusal) {
+    assert_eq!(m.step_lent(), Err(refusal));
+    assert!(m == was, "a step changed a word");
+    for level in [10, 9] {
+        assert_eq!(m.raise_lent(level), Err(refusal));
+        assert!(m == was, "a raise changed a word");
+    }
+}
+
+/// Wrong sizes before a state out of range, and both before the level of a raise.
+#[test]
+fn sizes() {
+    let lengths = [
+        (0, 256),
+        (1, 256),
+        (1023, 256),
+        (1025, 256),
+        (2047, 256),
+        (MEMORY_MOST + 1024, 256),
+        (2048, 0),
+        (2048, 64),
+        (2048, 255),
+        (2048, 257),
+        (0, 0),
+    ];
+    for (memory, tables) in lengths {
+        let mut m = Pieces::new(1);
+        m.memory = vec![0o170405; memory];
+        m.tables = vec![0o111111; tables];
+        refused(&mut m.clone(), &m, Refusal::Sizes);
+        m.state.0[STOPPED] = 2;
+        refused(&mut m.clone(), &m, Refusal::Sizes);
+    }
+}
+
+/// Each bit of each control word set, on a machine that is all 0 and on random ones: taken if the word may have it,
+/// else refused 2.
+#[test]
+fn control_words() {
+    let mut random = Random(0x9e37_79b9_7f4a_7c15);
+    let mut starts = vec![Pieces::new(1)];
+    starts.extend((0..20).map(|_| Pieces::random(&mut random)));
+    let mut taken = 0;
+    for start in &starts {
+        for (at, bits) in CONTROL_BITS.into_iter().enumerate() {
+            for bit in (0..16).map(|n| 1 << n) {
+                let mut m = start.clone();
+                m.state.0[LEVEL + at] |= bit;
+                if bits & bit == 0 {
+                    refused(&mut m.clone(), &m, Refusal::State);
+                } else {
+                    taken += 1;
+                    assert!(m.clone().step_lent().is_ok());
+                    assert_eq!(m.raise_lent(10), Ok(()));
+                }
+            }
+        }
+    }
+    // 4 + 3 + 32 + 4 + 20 + 10 of the first ten words, 6 of each PCR
+    assert_eq!(taken, starts.len() * (73 + 16 * 6));
+}
+
+/// An STS of 256 or more, on each level, whichever runs.
+#[test]
+fn status() {
+    for level in 0..16 {
+        let mut m = Pieces::new(1);
+        m.state.0[LEVEL] = 15 - level;
+        m.memory.fill(0o170405);
+        m.tables.fill(0o111111);
+        let mut was = m.clone();
+        let sts = 8 * usize::from(level);
+        for word in 256..=u16::MAX {
+            m.state.0[sts] = word;
+            was.state.0[sts] = word;
+            refused(&mut m, &was, Refusal::State);
+        }
+        m.state.0[sts] = 255;
+        assert_eq!(m.clone().step_lent(), Ok(0));
+        assert_eq!(m.raise_lent(15), Ok(()));
+    }
+}
+
+/// Every number of a level: 10 to 13 and 15 set their PID bit and nothing else, the others are refused 3.
+fn every_level(start: &Pieces) {
+    let (mut m, mut words) = (start.clone(), start.clone());
+    let mut taken = Vec::new();
+    for level in 0..=u16::MAX {
+        let mut want = start.state;
+        let answer = m.raise_lent(level);
+        if matches!(level, 10..=13 | 15) {
+            want.0[PID] |= 1 << level;
+            taken.push(level);
+            assert_eq!(answer, Ok(()));
+        } else {
+            assert_eq!(answer, Err(Refusal::RaiseLevel));
+        }
+        assert_eq!(m.state, want);
+        assert_eq!(words.raise(level), answer);
+        assert_eq!(words.state, want);
+        m.state = start.state;
+        words.state = start.state;
+    }
+    assert!(m == *start, "memory or page tables");
+    assert_eq!(taken, [10, 11, 12, 13, 15]);
+}
+
+#[test]
+fn raises() {
+    let mut random = Random(0x1234_5678_9abc_def1);
+    let mut start = Pieces::random(&mut random);
+    for (pid, stopped) in [(0, 0), (0, 1), (0o041000, 0), (0o041000, 1)] {
+        start.state.0[PID] = pid;
+        start.state.0[STOPPED] = stopped;
+        every_level(&start);
+    }
+}
+
+/// A raise beside those that stand: they stay, and one that is raised again is the same.
+#[test]
+fn raises_stay() {
+    let mut m = Pieces::new(1);
+    for (level, pid) in [
+        (10, 0o2000),
+        (15, 0o102000),
+        (10, 0o102000),
+        (13, 0o122000),
+        (11, 0o126000),
+        (12, 0o136000),
+    ] {
+        assert_eq!(m.raise_lent(level), Ok(()));
+        let mut want = State::new();
+        want.0[PID] = pid;
+        assert_eq!(m.state, want);
+    }
+}
+
+/// SAA 5; AAA 3; MON 7; a word that is no instruction; WAIT. IIE has interrupt 4.
+const IMAGE: [u16; 17] = [
+    2, 1, 0, 0, 0, 5, 3, 0, 8, 0, 1, 0o170405, 0o172403, 0o153007, 0o160000, 0o151000, 0o20,
+];
+
+/// Sizes that the engine takes are those that a machine can have.
+#[test]
+fn machine_sizes() {
+    for pages in [0, 513, 514, usize::MAX / 1024, usize::MAX] {
+        assert_eq!(Machine::new(pages), Err(Refusal::Sizes));
+        assert_eq!(Machine::load(&IMAGE, pages), Err(Refusal::Sizes));
+        assert_eq!(Machine::load(&[], pages), Err(Refusal::Sizes));
+    }
+    for pages in [1, 2, 511, 512] {
+        let mut machine = Machine::new(pages).unwrap();
+        assert_eq!(*machine.state(), State::new());
+        assert_eq!(machine.memory().len(), pages * 1024);
+        assert!(machine.memory().iter().all(|word| *word == 0));
+        assert_eq!(*machine.tables(), [0; 256]);
+        assert_eq!(machine.step(), Ok(0));
+    }
+    let mut m = Pieces::new(513);
+    assert_eq!(m.step(), Err(Refusal::Sizes));
+}
+
+/// By hand: each method does its operation.
+#[test]
+fn machine_by_hand() {
+    let mut machine = Machine::load(&IMAGE, 2).unwrap();
+    assert_eq!(machine.step(), Ok(0));
+    assert_eq!(machine.register(0, Register::A), 5);
+    assert_eq!(machine.run_to_interrupt(10), Ok((2, Reason::Interrupt)));
+    assert_eq!(machine.register(0, Register::A), 8);
+    assert_eq!(machine.register(14, Register::T), 7);
+    assert_eq!(machine.raise(14), Err(Refusal::RaiseLevel));
+    assert_eq!(machine.raise(11), Ok(()));
+    assert_eq!(machine.control(Control::Pid), 0o4000);
+    assert_eq!(machine.step(), Ok(4));
+    assert_eq!(machine.control(Control::Pid), 0o44000);
+    assert_eq!(machine.run(10), Ok((1, Reason::Stopped)));
+    assert_eq!(machine.control(Control::Stopped), 1);
+    assert_eq!(machine.run(10), Ok((0, Reason::Stopped)));
+    assert_eq!(machine.view(Target::Memory, 1, 2).unwrap(), &IMAGE[12..14]);
+    assert_eq!(machine.view(Target::Tables, 255, 2), Err(Refusal::View));
+}
+
+/// What the host stores is what a call finds, and a state out of range is refused and kept.
+#[test]
+fn machine_stores() {
+    let mut machine = Machine::new(1).unwrap();
+    machine.memory_mut()[1023] = 0o170405;
+    machine.tables_mut()[255] = 0o111111;
+    machine.state_mut().0[3 * 8 + P_0] = 1023;
+    machine.state_mut().0[LEVEL] = 3;
+    machine.state_mut().0[PCR + 3] = 0o203;
+    assert_eq!(machine.step(), Ok(0));
+    assert_eq!(machine.register(3, Register::P), 1024);
+    assert_eq!(machine.register(3, Register::A), 5);
+    assert_eq!(machine.pcr(3), 0o203);
+    assert_eq!(machine.tables()[255], 0o111111);
+    machine.state_mut().0[LEVEL] = 16;
+    let was = machine.clone();
+    assert_eq!(machine.step(), Err(Refusal::State));
+    assert_eq!(machine.raise(10), Err(Refusal::State));
+    assert_eq!(machine.run(10), Err(Refusal::State));
+    assert_eq!(machine.run_to_interrupt(10), Err(Refusal::State));
+    assert_eq!(machine.write(), Err(Refusal::State));
+    assert_eq!(machine, was);
+}
+
+/// A machine that is owned and one in pieces, by runs, raises, views and images.
+#[test]
+fn machine_as_the_functions() {
+    let mut random = Random(0xdead_beef_0bad_cafe);
+    let mut spent = 0;
+    for _ in 0..200 {
+        let mut m = Pieces::random(&mut random);
+        let mut machine = m.owned();
+        for _ in 0..10 {
+            let steps = u64::from(random.below(50));
+            let ran = run(&mut m.state, &mut m.memory, &mut m.tables, steps);
+            assert_eq!(machine.run(steps), ran);
+            assert!(m.is(&machine));
+            spent += u32::from(ran == Ok((steps, Reason::Spent)));
+            let ran = run_to_interrupt(&mut m.state, &mut m.memory, &mut m.tables, steps);
+            assert_eq!(machine.run_to_interrupt(steps), ran);
+            assert!(m.is(&machine));
+            let level = random.below(17);
+            assert_eq!(machine.raise(level), m.raise(level));
+            assert!(m.is(&machine));
+        }
+        same_views(&m, &machine, &mut random);
+        same_image(&m, &machine);
+    }
+    assert!(spent > 100, "{spent} runs of as many steps as asked");
+}
+
+fn same_views(m: &Pieces, machine: &Machine, random: &mut Random) {
+    for target in [Target::Memory, Target::Tables] {
+        let (start, len) = (random.below(512).into(), random.below(512).into());
+        let part = view(target, start, len, &m.memory, &m.tables);
+        assert_eq!(machine.view(target, start, len), part);
+    }
+}
+
+/// The image of both is one, and its machine is this one.
+fn same_image(m: &Pieces, machine: &Machine) {
+    let pages = m.memory.len() / PAGE_WORDS;
+    let mut image = vec![0; m.memory.len() + IMAGE_EXTRA];
+    write(&m.state, &m.memory, &m.tables, &mut image).unwrap();
+    assert_eq!(machine.write().as_ref(), Ok(&image));
+    assert_eq!(Machine::load(&image, pages).as_ref(), Ok(machine));
+    for (level, words) in machine.state().0[..LEVEL].chunks(8).enumerate() {
+        assert_eq!(machine.register(level, Register::Sts), words[0]);
+        assert_eq!(machine.register(level, Register::X), words[7]);
+        assert_eq!(machine.pcr(level), machine.state().0[PCR + level]);
+    }
+    assert_eq!(
+        machine.control(Control::Pgs),
+        machine.state().0[STATE_WORDS - 17]
+    );
+}
+
+/// Short, and of a state out of range too.
+#[test]
+fn machine_shown() {
+    let mut machine = Machine::load(&IMAGE, 512).unwrap();
+    assert_eq!(machine.run(3), Ok((3, Reason::Spent)));
+    let shown = format!("{machine:?}");
+    assert_eq!(
+        shown,
+        "Machine { pages: 512, level: 0, p: 000003, stopped: 0, .. }"
+    );
+    machine.state_mut().0[LEVEL] = 16;
+    let shown = format!("{machine:?}");
+    assert_eq!(shown, "Machine { pages: 512, level: 16, stopped: 0, .. }");
+}
