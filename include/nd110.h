@@ -12,13 +12,14 @@
  *            128 + n
  *   memory   1,024 to 524,288 words, a multiple of 1,024
  *   tables   ND110_TABLE_WORDS words: four page tables of 64 entries
- *   Each is handed in as a place and its length in words. The engine keeps nothing between calls and allocates nothing:
- *   a machine is these three, they belong to the caller, and the caller may read and write them between calls.
+ *   Each is handed in as a place and its length in words, but for a record, which is a place alone. The engine keeps
+ *   nothing between calls and allocates nothing: a machine is these three, they belong to the caller, and the caller
+ *   may read and write them between calls.
  *
  * The state as a record
  *   nd110_state names the same ND110_STATE_WORDS words in the same order, with nothing between them: a record and the
- *   state words of the other functions are one and the same words. The functions of _lent take a pointer to a record,
- *   which has its size by its type; the others take ND110_WORDS(&record).
+ *   state words of the other functions are one and the same words. The functions whose names end in _lent take a
+ *   pointer to a record, which has its size by its type; the others take ND110_WORDS(&record).
  *
  * What can be seen, and is refused: every length; every word of the state; every word of an image; the level of a
  * raise; the kind, start and length of a view, sums that would wrap included.
@@ -110,9 +111,11 @@ typedef struct nd110_state {
 /* Does not compile, as C or C++, if the record has other than ND110_STATE_WORDS words. */
 typedef char nd110_state_words[sizeof(nd110_state) == ND110_STATE_WORDS * sizeof(uint16_t) ? 1 : -1];
 
-/* A record's words as the two arguments that the other functions take, ND110_LENT's way:
+/* The words of a record, given by a pointer to it, as the two arguments that the other functions take. The pointer is
+ * evaluated twice; a null pointer goes with length 0.
  *   nd110_run(ND110_WORDS(&record), memory, memory_len, tables, tables_len, n, &steps, &reason) */
-#define ND110_WORDS(record) ND110_LENT((uint16_t *)(record), ND110_STATE_WORDS)
+static inline uint16_t *nd110_record(nd110_state *record) { return (uint16_t *)record; }
+#define ND110_WORDS(record) ND110_LENT(nd110_record(record), ND110_STATE_WORDS)
 
 /* One step. *interrupt gets the number of the interrupt that it gave, 0 if none.
  * ND110_BAD_CALL, ND110_SIZES, ND110_STATE. */

@@ -73,7 +73,7 @@ pub type RegisterWords = [u16; REGISTER_WORDS];
 
 pub type ControlWords = [u16; CONTROL_COUNT];
 
-// Of the control words in image order: 1 to 9.
+// Control words 1 to 9, of all control words in image order.
 pub fn control_of(words: &[u16]) -> Control
     requires { ⌜ length (now words) ≡ controlCount ⌝ }
     ensures { λ k. ⌜ k ≡ stateOf [] (now (words .entry)) .control ⌝ }
@@ -91,7 +91,7 @@ pub fn control_of(words: &[u16]) -> Control
     }
 }
 
-// .. and the PCRs.
+// The PCRs, of all control words in image order.
 pub type Pcrs = [u16; LEVEL_COUNT];
 
 pub fn pcrs_of(words: &[u16]) -> Pcrs

@@ -301,7 +301,7 @@ pub record Typed (s : State) : Type 0 where
   pub regs-words : Words (s .regs)
   pub control-words : Words (controlWords s)
 
--- The parts of a state: the level l, the control words k 1 to 9, the registers b and the PCRs p of all levels.
+-- A state of its parts: the level l, the control words k 1 to 9, the registers b and the PCRs p of all levels.
 abbrev pub stateWith : ℕ → Control → List ℕ → List ℕ → State
 stateWith l k b p = record { regs = b; level = l; control = k; pcr = p }
 

@@ -1,4 +1,5 @@
--- What a host's call answers and leaves: the operations of document 01 over a state lent as words in image order.
+-- What a host's call answers and leaves: the operations of document 01 over a state lent as words in image order, or as
+-- a record.
 use Prim.Native.Nat.{ℕ}
 use mathlib.Core.Bool.{Bool, cond, _||_}
 use mathlib.Core.List.{List, [], _∷_, _++_}
@@ -60,7 +61,7 @@ stepEnd w y c =
 abbrev pub hostStep : List ℕ → List ℕ → List ℕ → List ℕ → Left
 hostStep w m t y = called w m t y (stepEnd w y (stepCall (stateIn w) m t))
 
--- the same of a lent record, in place of words
+-- what a call on a lent record answers and leaves: as Left, with the record in place of words
 pub record LentLeft : Type 0 where
   pub number : ℕ
   pub state : State
@@ -71,7 +72,8 @@ pub record LentLeft : Type 0 where
 abbrev pub lentLeft : ℕ → State → List ℕ → List ℕ → List ℕ → LentLeft
 lentLeft n s m t x = record { number = n; state = s; memory = m; tables = t; told = x }
 
--- the record is as the call hands it back, and so are memory and page tables: a refused one hands back what came
+-- the record is as the call hands it back, and so are memory and page tables: a refused one hands back what came. Step
+-- tells the interrupt's number; a refused one leaves the word for it.
 abbrev pub lentStepEnd : ℕ → StepCall → LentLeft
 lentStepEnd y c =
     lentLeft (stepNumber (c .answer)) (c .state) (c .memory) (c .tables)
@@ -93,6 +95,7 @@ answerEnd w a s m t = callEnd (answerNumber a) s m t [] w []
 abbrev pub raiseEnd : List ℕ → List ℕ → List ℕ → StateCall → Left
 raiseEnd w m t c = answerEnd w (c .answer) (c .state) m t
 
+-- raise of a lent record: memory and page tables are lent to be read
 abbrev pub lentRaiseEnd : List ℕ → List ℕ → StateCall → LentLeft
 lentRaiseEnd m t c = lentLeft (answerNumber (c .answer)) (c .state) m t []
 

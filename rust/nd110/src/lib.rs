@@ -1,7 +1,8 @@
 //! The proved ND-110 engine for a Rust host: every operation of document 01 over lent words.
 //!
 //! Each function calls the static library's function of the same name. What the library cannot see for itself, slices
-//! of Rust ensure: they are not null, as long as they say, and do not overlap. So no call here is unsafe.
+//! and references of Rust ensure: they are not null, as long as they say, and do not overlap. So no call here is
+//! unsafe.
 //!
 //! The functions take the machine in its three pieces, for a host that keeps them where it must. A [`Machine`] owns
 //! them; its methods are the same operations. `examples/host.rs` shows its use.
@@ -30,7 +31,7 @@ pub use numbers::{
 };
 
 /// A state as words in image order: register n of a level is word 8 * level + n, control word n is word 128 + n. It is
-/// these words alone, so it is also the record that `step_lent` and `raise_lent` lend.
+/// these words alone, so it is also the record that `step_lent` and `raise_lent` take.
 #[derive(Clone, Copy, Debug, PartialEq, Eq)]
 #[repr(transparent)]
 pub struct State(pub [u16; STATE_WORDS]);
@@ -93,7 +94,8 @@ pub fn step(state: &mut State, memory: &mut [u16], tables: &mut [u16]) -> Result
     Ok(interrupt)
 }
 
-/// The same step, the state lent as a record and updated in place. Refuses 1, 2.
+/// The same step by the library's nd110_step_lent, which copies the record out and back: `step` is quicker. Refuses 1,
+/// 2.
 pub fn step_lent(
     state: &mut State,
     memory: &mut [u16],
@@ -134,7 +136,7 @@ pub fn raise(state: &mut State, level: u16, memory: &[u16], tables: &[u16]) -> R
     answer(library::raise(&mut state.0, level, memory, tables))
 }
 
-/// The same raise, the state lent as a record and updated in place. Refuses 1, 2, 3.
+/// The same raise by the library's nd110_raise_lent. Refuses 1, 2, 3.
 pub fn raise_lent(
     state: &mut State,
     level: u16,

@@ -106,7 +106,7 @@ mod raw {
     }
 }
 
-// SAFETY of every call below: the places and lengths are those of slices, which are valid, and apart where one is
+// SAFETY of every call below: the places and lengths are those of slices and references, valid, and apart where one is
 // written; the library is proved to stay within them. A record's place is that of a `State`, which is exactly its 154
 // words (`repr(transparent)`), in the order of the header's nd110_state.
 
