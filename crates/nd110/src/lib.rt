@@ -1,6 +1,6 @@
-// The operations for a host in C or Rust: numbers, lent words and records alone, nothing required of the caller. Each function
-// answers 0, document 01's number of a refusal, or 255 for a call that is no operation; only 0 changes lent words.
-// include/nd110.h declares them.
+// The operations for a host in C or Rust: numbers, lent words and records alone, nothing required of the caller. Each
+// function answers 0, document 01's number of a refusal, or 255 for a call that is no operation; only 0 changes lent
+// words. include/nd110.h declares them.
 ghost use mathlib.Core.Path.{_≡_};
 ghost use mathlib.Core.Bool.{true, false, cond};
 ghost use Prim.Native.Nat.{ℕ};

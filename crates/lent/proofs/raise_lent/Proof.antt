@@ -60,7 +60,8 @@ use Rattle.operations.proofs.raise.raise.Symbol as raise-def
 use Rattle.operations.proofs.raise.raise.Symbol.{name as #operations·raise·raise}
 use Rattle.operations.proofs.raise.raise.Met as raise-thm
 use Rattle.lent.specs.Lent.{lentRaise}
-use Rattle.lent.proofs.Walks.{says-both, slice-at, memory-lent, tables-lent, Slices, slices-twice}
+use Rattle.lent.proofs.Walks.{says-both, passes-one, slice-at, memory-lent, tables-lent, Slices}
+use Rattle.lent.proofs.Walks.{raise-words, words-for-raise}
 use Rattle.lent.proofs.raised_state as after
 use Rattle.lent.proofs.raised_state.Symbol as after-def
 use Rattle.lent.proofs.raised_state.Symbol.{name as #lent·raised-state}
@@ -179,11 +180,9 @@ module _ {M : Type 1} (𝓤 : URA M) (H : Heap 𝓤) (A : Atoms 𝓤) (W : Given
       qed W ((‵ (flft κ′ q′) ⊛ ‵ (flft κ″ q″) ⊛ ‵ ftrue) ∷ ‵ (T.the-row .own h (v ∷ []))
       ∷ (‵ (memory-lent κ′ mem′) ⊛ ‵ (tables-lent κ″ tab′)) ∷ []) ∵
       move ! (2 ∷ []) $
-      use1 W ((‵ (memory-lent κ′ mem′) ⊛ ‵ (tables-lent κ″ tab′)) ⊛ (‵ (memory-lent κ′ mem′) ⊛ ‵ (tables-lent κ″ tab′)))
-      (slices-twice 𝓤 H A W κ′ κ″ mem′ tab′) $ split ! $ split ! $
-      -- [memory; tables; the slices; the tokens; the state]
-      nothing ! $ move ! (2 ∷ 0 ∷ []) $ fjoin ! $ move ! (1 ∷ 0 ∷ []) $ fjoin ! $
-      owned ! u16 (Is u16) (uint-makes 𝓤 H A W w16) level _ (refl, fits) $ fjoin ! $
+      use1 W (‵ (raise-words κ′ κ″ level mem′ tab′) ⊛ (‵ (memory-lent κ′ mem′) ⊛ ‵ (tables-lent κ″ tab′)))
+      (words-for-raise 𝓤 H A W κ′ κ″ level fits mem′ tab′) $ split ! $
+      -- [level and slices; the slices; the tokens; the state]
       move ! (3 ∷ 0 ∷ []) $ fjoin ! $ move ! (2 ∷ 0 ∷ []) $
       use2 W (raw (Raise 𝓤 H A at-mem run .pre (to-raise v)))
       (qed W ((‵ (flft κ′ q′) ⊛ ‵ (flft κ″ q″) ⊛ ‵ ftrue)
@@ -204,20 +203,8 @@ module _ {M : Type 1} (𝓤 : URA M) (H : Heap 𝓤) (A : Atoms 𝓤) (W : Given
   abbrev to-after : RaiseResult → Val → After 𝓤 H A at-mem run .Ghost
   to-after r v = ((tt, tt, tt, (r, tt), (v ∷ [], tt)), tt)
 
-  goes-after : (r : RaiseResult) (v : Val)
-      → ent 𝓤 (sem 𝓤 H A (R.the-row .own r (v ∷ []))) (After 𝓤 H A at-mem run .pre (to-after r v))
-  goes-after r v =
-      qed W (‵ (R.the-row .own r (v ∷ [])) ∷ []) ∵
-      nothing ! $ move ! (1 ∷ 0 ∷ []) $ join ! $ nothing ! $ join ! $ frame ! $ done !
-
   abbrev to-told : RaiseResult → Val → Told 𝓤 H A at-mem run .Ghost
   to-told r v = ((tt, tt, tt, (r, tt), (v ∷ [], tt)), tt)
-
-  goes-told : (r : RaiseResult) (v : Val)
-      → ent 𝓤 (sem 𝓤 H A (R.the-row .own r (v ∷ []))) (Told 𝓤 H A at-mem run .pre (to-told r v))
-  goes-told r v =
-      qed W (‵ (R.the-row .own r (v ∷ [])) ∷ []) ∵
-      nothing ! $ move ! (1 ∷ 0 ∷ []) $ join ! $ nothing ! $ join ! $ frame ! $ done !
 
   module _ (C : Calls 𝓤 H) (Λ : Loops 𝓤 H) (fm : FmC 𝓤 H (W .laws) C)
       (known : Triple 𝓤 (C #operations·raise·raise) (Raise 𝓤 H A at-mem run))
@@ -268,7 +255,7 @@ module _ {M : Type 1} (𝓤 : URA M) (H : Heap 𝓤) (A : Atoms 𝓤) (W : Given
         land ! (from ! (stop !)) (init ! 9 refl (LL.lawful R.the-type R′.the-laws 𝓤 H A W .typed r _ is′ .0)) $
         use1 W (‵ (R.the-row .own r (v ∷ [])) ⊛ ‵ (R.the-row .own r (v ∷ [])))
         (LL.copy R.the-type R′.the-copy 𝓤 H A W .twice r (v ∷ [])) $ split ! $
-        use1 W (raw (After 𝓤 H A at-mem run .pre (to-after r v))) (goes-after r v) $
+        use1 W (raw (After 𝓤 H A at-mem run .pre (to-after r v))) (passes-one 𝓤 H A W R.the-row r v) $
         calls-at ! fm (After 𝓤 H A at-mem run) known-after (to-after r v)
         (and-then ! (load ! (from ! (stop !)) (look ! 10 refl)) (no-more !)) (λ v₁.
         use1 W (later (some (λ (n : State). (‵ ftrue ⊛ ‵ (T.the-row .own n (v₁ ∷ [])))
@@ -282,7 +269,7 @@ module _ {M : Type 1} (𝓤 : URA M) (H : Heap 𝓤) (A : Atoms 𝓤) (W : Given
         (store-raw ! 4 refl (LL.lawful T.the-type T′.the-laws 𝓤 H A W .typed n _ is₁ .0)) $
         move ! (4 ∷ 0 ∷ 5 ∷ 6 ∷ 7 ∷ []) $ closes ! tt T.the-row n (v₁ ∷ []) b o $
         -- [obs; the borrow; the first token; the result; the other tokens; the slices; _7; …]
-        move ! (3 ∷ []) $ use1 W (raw (Told 𝓤 H A at-mem run .pre (to-told r v))) (goes-told r v) $
+        move ! (3 ∷ []) $ use1 W (raw (Told 𝓤 H A at-mem run .pre (to-told r v))) (passes-one 𝓤 H A W R.the-row r v) $
         calls-at ! fm (Told 𝓤 H A at-mem run) known-told (to-told r v)
         (and-then ! (load ! (from ! (stop !)) (look ! 8 refl)) (no-more !)) (λ v₂.
         use1 W (later (some (λ (a : Answer). (‵ ftrue ⊛ ‵ (E.the-row .own a (v₂ ∷ [])))

@@ -61,7 +61,7 @@ use Rattle.operations.proofs.step.step.Symbol as step-def
 use Rattle.operations.proofs.step.step.Symbol.{name as #operations·step·step}
 use Rattle.operations.proofs.step.step.Met as step-thm
 use Rattle.lent.specs.Lent.{lentStep}
-use Rattle.lent.proofs.Walks.{says-both}
+use Rattle.lent.proofs.Walks.{says-both, passes-one}
 use Rattle.lent.proofs.stepped_state as after
 use Rattle.lent.proofs.stepped_state.Symbol as after-def
 use Rattle.lent.proofs.stepped_state.Symbol.{name as #lent·stepped-state}
@@ -174,20 +174,8 @@ module _ {M : Type 1} (𝓤 : URA M) (H : Heap 𝓤) (A : Atoms 𝓤) (W : Given
   abbrev to-after : StepResult → Val → After 𝓤 H A at-mem run .Ghost
   to-after r v = ((tt, tt, tt, (r, tt), (v ∷ [], tt)), tt)
 
-  goes-after : (r : StepResult) (v : Val)
-      → ent 𝓤 (sem 𝓤 H A (R.the-row .own r (v ∷ []))) (After 𝓤 H A at-mem run .pre (to-after r v))
-  goes-after r v =
-      qed W (‵ (R.the-row .own r (v ∷ [])) ∷ []) ∵
-      nothing ! $ move ! (1 ∷ 0 ∷ []) $ join ! $ nothing ! $ join ! $ frame ! $ done !
-
   abbrev to-told : StepResult → Val → Told 𝓤 H A at-mem run .Ghost
   to-told r v = ((tt, tt, tt, (r, tt), (v ∷ [], tt)), tt)
-
-  goes-told : (r : StepResult) (v : Val)
-      → ent 𝓤 (sem 𝓤 H A (R.the-row .own r (v ∷ []))) (Told 𝓤 H A at-mem run .pre (to-told r v))
-  goes-told r v =
-      qed W (‵ (R.the-row .own r (v ∷ [])) ∷ []) ∵
-      nothing ! $ move ! (1 ∷ 0 ∷ []) $ join ! $ nothing ! $ join ! $ frame ! $ done !
 
   module _ (C : Calls 𝓤 H) (Λ : Loops 𝓤 H) (fm : FmC 𝓤 H (W .laws) C)
       (known : Triple 𝓤 (C #operations·step·step) (Step 𝓤 H A at-mem run))
@@ -253,7 +241,7 @@ module _ {M : Type 1} (𝓤 : URA M) (H : Heap 𝓤) (A : Atoms 𝓤) (W : Given
         land ! (from ! (stop !)) (init ! 20 refl (LL.lawful R.the-type R′.the-laws 𝓤 H A W .typed r _ is′ .0)) $
         use1 W (‵ (R.the-row .own r (v ∷ [])) ⊛ ‵ (R.the-row .own r (v ∷ [])))
         (LL.copy R.the-type R′.the-copy 𝓤 H A W .twice r (v ∷ [])) $ split ! $
-        use1 W (raw (After 𝓤 H A at-mem run .pre (to-after r v))) (goes-after r v) $
+        use1 W (raw (After 𝓤 H A at-mem run .pre (to-after r v))) (passes-one 𝓤 H A W R.the-row r v) $
         calls-at ! fm (After 𝓤 H A at-mem run) known-after (to-after r v)
         (and-then ! (load ! (from ! (stop !)) (look ! 21 refl)) (no-more !)) (λ v₁.
         use1 W (later (some (λ (n : State). (‵ ftrue ⊛ ‵ (T.the-row .own n (v₁ ∷ [])))
@@ -268,7 +256,7 @@ module _ {M : Type 1} (𝓤 : URA M) (H : Heap 𝓤) (A : Atoms 𝓤) (W : Given
         move ! (7 ∷ 0 ∷ 8 ∷ 9 ∷ 10 ∷ []) $ closes ! tt T.the-row n (v₁ ∷ []) b o $
         -- [obs; the borrow; the first token; the result; the other tokens; the last tables; true; the last memory;
         -- true; _10; …]
-        move ! (3 ∷ []) $ use1 W (raw (Told 𝓤 H A at-mem run .pre (to-told r v))) (goes-told r v) $
+        move ! (3 ∷ []) $ use1 W (raw (Told 𝓤 H A at-mem run .pre (to-told r v))) (passes-one 𝓤 H A W R.the-row r v) $
         calls-at ! fm (Told 𝓤 H A at-mem run) known-told (to-told r v)
         (and-then ! (load ! (from ! (stop !)) (look ! 19 refl)) (no-more !)) (λ v₂.
         use1 W (later (some (λ (a : StepAnswer). (‵ ftrue ⊛ ‵ (E.the-row .own a (v₂ ∷ [])))

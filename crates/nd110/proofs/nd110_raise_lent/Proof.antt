@@ -49,7 +49,7 @@ use Rattle.isa.proofs.number.answer_number.Symbol as number-def
 use Rattle.isa.proofs.number.answer_number.Symbol.{name as #isa·number·answer-number}
 use Rattle.isa.proofs.number.answer_number.Met as number-thm
 use Rattle.lent.specs.Lent.{lentRaise}
-use Rattle.lent.proofs.Walks.{slice-at, memory-lent, tables-lent, Slices, slices-twice}
+use Rattle.lent.proofs.Walks.{passes-one, slice-at, memory-lent, tables-lent, Slices, raise-words, words-for-raise}
 use Rattle.lent.proofs.raise_lent as raise
 use Rattle.lent.proofs.raise_lent.Symbol as raise-def
 use Rattle.lent.proofs.raise_lent.Symbol.{name as #lent·raise-lent}
@@ -149,11 +149,9 @@ module _ {M : Type 1} (𝓤 : URA M) (H : Heap 𝓤) (A : Atoms 𝓤) (W : Given
       ∷ ‵ (MutRef (named 0) κ T.the-row .own m′ (vptr b o ∷ []))
       ∷ (‵ (memory-lent κ′ mem′) ⊛ ‵ (tables-lent κ″ tab′)) ∷ []) ∵
       move ! (2 ∷ []) $
-      use1 W ((‵ (memory-lent κ′ mem′) ⊛ ‵ (tables-lent κ″ tab′)) ⊛ (‵ (memory-lent κ′ mem′) ⊛ ‵ (tables-lent κ″ tab′)))
-      (slices-twice 𝓤 H A W κ′ κ″ mem′ tab′) $ split ! $ split ! $
-      -- [memory; tables; the slices; the tokens; the record]
-      nothing ! $ move ! (2 ∷ 0 ∷ []) $ fjoin ! $ move ! (1 ∷ 0 ∷ []) $ fjoin ! $
-      owned ! u16 (Is u16) (uint-makes 𝓤 H A W w16) level _ (refl, fits) $ fjoin ! $
+      use1 W (‵ (raise-words κ′ κ″ level mem′ tab′) ⊛ (‵ (memory-lent κ′ mem′) ⊛ ‵ (tables-lent κ″ tab′)))
+      (words-for-raise 𝓤 H A W κ′ κ″ level fits mem′ tab′) $ split ! $
+      -- [level and slices; the slices; the tokens; the record]
       move ! (3 ∷ 0 ∷ []) $ fjoin ! $ move ! (2 ∷ 0 ∷ []) $
       use2 W (raw (Raise 𝓤 H A at-mem run .pre to-raise))
       (qed W ((‵ (flft κ q) ⊛ ‵ (flft κ′ q′) ⊛ ‵ (flft κ″ q″) ⊛ ‵ ftrue)
@@ -163,12 +161,6 @@ module _ {M : Type 1} (𝓤 : URA M) (H : Heap 𝓤) (A : Atoms 𝓤) (W : Given
 
   abbrev to-number : Answer → Val → Number 𝓤 H A at-mem run .Ghost
   to-number a v = ((tt, tt, tt, (a, tt), (v ∷ [], tt)), tt)
-
-  goes-number : (a : Answer) (v : Val)
-      → ent 𝓤 (sem 𝓤 H A (E.the-row .own a (v ∷ []))) (Number 𝓤 H A at-mem run .pre (to-number a v))
-  goes-number a v =
-      qed W (‵ (E.the-row .own a (v ∷ [])) ∷ []) ∵
-      nothing ! $ move ! (1 ∷ 0 ∷ []) $ join ! $ nothing ! $ join ! $ frame ! $ done !
 
   module _ (C : Calls 𝓤 H) (Λ : Loops 𝓤 H) (fm : FmC 𝓤 H (W .laws) C)
       (known : Triple 𝓤 (C #lent·raise-lent) (Raise 𝓤 H A at-mem run))
@@ -214,7 +206,7 @@ module _ {M : Type 1} (𝓤 : URA M) (H : Heap 𝓤) (A : Atoms 𝓤) (W : Given
         -- [the answer; the tokens; the record's last value; what is last of the others; _6; …]
         peeks ! E.the-row (Is E.the-row) (shows 𝓤 H A E.the-row) a (v ∷ []) (λ is.
         land ! (from ! (stop !)) (init ! 6 refl (EL.lawful E.the-type E′.the-laws 𝓤 H A W tt .typed a _ is .0)) $
-        use1 W (raw (Number 𝓤 H A at-mem run .pre (to-number a v))) (goes-number a v) $
+        use1 W (raw (Number 𝓤 H A at-mem run .pre (to-number a v))) (passes-one 𝓤 H A W E.the-row a v) $
         calls-at ! fm (Number 𝓤 H A at-mem run) known-number (to-number a v)
         (and-then ! (load ! (from ! (stop !)) (look ! 6 refl)) (no-more !)) (λ v₁.
         use1 W (later (some (λ (n : ℕ). (‵ ftrue ⊛ ‵ (u16 .own n (v₁ ∷ [])))
