@@ -12,3 +12,4 @@ pub mod Runs
 pub mod Examples
 pub mod Packing
 pub mod Bits
+pub mod Refusals

@@ -1,6 +1,6 @@
 -- Values that a test decides, and tests that stand together.
 -- Assumes nothing.
-use mathlib.Core.Path.{_≡_, refl}
+use mathlib.Core.Path.{_≡_, refl, sym}
 use mathlib.Core.Bool.{Bool, true, false, cond, _&&_, _||_, false≢true}
 
 -- one of two values, by a test
@@ -17,7 +17,12 @@ decided P false p q = q refl
 pub no-both : false ≡ true → ⊥
 no-both = false≢true
 
--- of two tests, one or both
+-- a test that cannot hold does not
+pub refuted : (b : Bool) → (b ≡ true → ⊥) → b ≡ false
+refuted true h = absurd (h refl)
+refuted false h = refl
+
+-- of two tests, one or both, or neither
 pub or-left : (x y : Bool) → x ≡ true → (x || y) ≡ true
 or-left true y h = refl
 or-left false y h = absurd (no-both h)
@@ -25,6 +30,10 @@ or-left false y h = absurd (no-both h)
 pub or-right : (x y : Bool) → y ≡ true → (x || y) ≡ true
 or-right true y h = refl
 or-right false y h = h
+
+pub neither : (x y : Bool) → (x || y) ≡ false → (x ≡ false) × (y ≡ false)
+neither true y h = absurd (no-both (sym h))
+neither false y h = (refl, h)
 
 pub and-both : {x y : Bool} → x ≡ true → y ≡ true → (x && y) ≡ true
 and-both h k = simp (h, k)

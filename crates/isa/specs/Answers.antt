@@ -18,7 +18,7 @@ use Rattle.isa.specs.declared.answer.Target.the-variants.{Memory, Tables
 use Rattle.isa.specs.declared.answer.Refusal.{Refusal}
 use Rattle.isa.specs.declared.answer.Refusal.the-variants.{Sizes, State as StateRange, RaiseLevel, Contents}
 use Rattle.isa.specs.declared.answer.Refusal.the-variants.{Kind, Target as TargetSize, Overlap, Bodies, View}
-use Rattle.isa.specs.declared.answer.Refusal.the-variants.{Output}
+use Rattle.isa.specs.declared.answer.Refusal.the-variants.{Output, Malformed, ExponentRange, Precision}
 use Rattle.isa.specs.declared.answer.StepAnswer.{StepAnswer}
 use Rattle.isa.specs.declared.answer.StepAnswer.the-variants.{Stepped, Refused as StepRefused}
 use Rattle.isa.specs.declared.answer.RunAnswer.{RunAnswer}
@@ -40,6 +40,10 @@ refusalNumber Overlap = 7
 refusalNumber Bodies = 8
 refusalNumber View = 9
 refusalNumber Output = 10
+-- document 02, card 12: "Answers: 15 ..; 16 ..; 17 .."
+refusalNumber Malformed = 15
+refusalNumber ExponentRange = 16
+refusalNumber Precision = 17
 
 -- 0 where nothing was refused
 abbrev pub answerNumber : Answer → ℕ

@@ -38,7 +38,7 @@ pub enum Target {
     Tables,
 }
 
-// Why an operation refused.
+// Why an operation refused; the last three are the conversions' of the floating forms.
 pub enum Refusal {
     Sizes,
     State,
@@ -50,6 +50,9 @@ pub enum Refusal {
     Bodies,
     View,
     Output,
+    Malformed,
+    ExponentRange,
+    Precision,
 }
 
 // What is answered beside state, memory and tables: by a step, its interrupt's number or 0; by a run, steps taken and

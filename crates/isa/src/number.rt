@@ -8,7 +8,7 @@ use crate::answer::Refusal;
 use crate::answer::RunAnswer;
 use crate::answer::StepAnswer;
 
-// Document 01's number of a refusal.
+// The number of a refusal in document 01, or 02.
 pub fn refusal_number(r: Refusal) -> u16
     ensures { λ n. ⌜ n ≡ refusalNumber r ⌝ }
 {
@@ -23,6 +23,9 @@ pub fn refusal_number(r: Refusal) -> u16
         Refusal::Bodies => 8,
         Refusal::View => 9,
         Refusal::Output => 10,
+        Refusal::Malformed => 15,
+        Refusal::ExponentRange => 16,
+        Refusal::Precision => 17,
     }
 }
 

@@ -1,7 +1,7 @@
 -- Answers in document 01's numbers.
 -- Assumes nothing.
 use Prim.Native.Nat.{ℕ, _+_}
-use mathlib.Core.Path.{_≡_, refl, sym, ap, _∙_}
+use mathlib.Core.Path.{_≡_, refl, ap, _∙_}
 use mathlib.Core.Bool.{Bool, true, false, cond, not}
 use mathlib.Core.List.{List, [], _∷_, _++_}
 use lib.ListN.{getD, length}
@@ -31,40 +31,10 @@ use Rattle.isa.specs.declared.answer.RunAnswer.{RunAnswer}
 use Rattle.isa.specs.declared.answer.RunAnswer.the-variants.{Ran, Refused as RunRefused}
 use Rattle.isa.specs.declared.answer.Answer.{Answer}
 use Rattle.isa.specs.declared.answer.Answer.the-variants.{Done, Refused}
+use Rattle.isa.proofs.Refusals.{refusalAt, refusal-again, refusal-above, decides}
 use Rattle.laws.specs.Statement.{NumbersDecide, CallsTell}
 
 -- ---- number and values determine the answer: it can be made of them again
-
-abbrev refusalAt : ℕ → Refusal
-refusalAt n =
-    getD
-    (Sizes ∷ Sizes ∷ StateRange ∷ RaiseLevel ∷ Contents ∷ Kind ∷ TargetSize ∷ Overlap ∷ Bodies ∷ View ∷ Output ∷ [])
-    n Sizes
-
-refusal-again : (x : Refusal) → refusalAt (refusalNumber x) ≡ x
-refusal-again Sizes = refl
-refusal-again StateRange = refl
-refusal-again RaiseLevel = refl
-refusal-again Contents = refl
-refusal-again Kind = refl
-refusal-again TargetSize = refl
-refusal-again Overlap = refl
-refusal-again Bodies = refl
-refusal-again View = refl
-refusal-again Output = refl
-
--- no refusal has the number 0
-refusal-above : (x : Refusal) → eqb (refusalNumber x) 0 ≡ false
-refusal-above Sizes = refl
-refusal-above StateRange = refl
-refusal-above RaiseLevel = refl
-refusal-above Contents = refl
-refusal-above Kind = refl
-refusal-above TargetSize = refl
-refusal-above Overlap = refl
-refusal-above Bodies = refl
-refusal-above View = refl
-refusal-above Output = refl
 
 abbrev reasonAt : ℕ → Reason
 reasonAt n = getD (Stopped ∷ Level ∷ Spent ∷ Interrupt ∷ []) n Stopped
@@ -97,10 +67,6 @@ runAt r =
 run-again : (a : RunAnswer) → runAt (runNumbers a) ≡ a
 run-again (Ran k w) = ap (Ran k) (reason-again w)
 run-again (RunRefused x) = rw (refusal-above x) (ap RunRefused (refusal-again x))
-
--- what can be made again is determined
-decides : {A B : Type 0} (f : A → B) (g : B → A) → ((a : A) → g (f a) ≡ a) → (a b : A) → f a ≡ f b → a ≡ b
-decides f g h a b e = sym (h a) ∙ ap g e ∙ h b
 
 pub numbers-decide : NumbersDecide
 numbers-decide = record {

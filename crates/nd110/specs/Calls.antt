@@ -1,5 +1,5 @@
 -- What a host's call answers and leaves: the operations of document 01 over a state lent as words in image order, or as
--- a record.
+-- a record; and the conversions of document 02 over words.
 use Prim.Native.Nat.{ℕ}
 use mathlib.Core.Bool.{Bool, cond, _||_}
 use mathlib.Core.List.{List, [], _∷_, _++_}
@@ -8,7 +8,8 @@ use lib.Dec.{leb, eqb}
 use Rattle.isa.specs.Machine.{registerWords, stateWords, stateOf, controlWords}
 use Rattle.isa.specs.Answers.{StepCall, RunCall, StateCall, LoadCall, answerNumber, stepNumber, interruptGiven}
 use Rattle.isa.specs.Answers.{runNumber, stepsTaken, reasonNumber, stepCall, runCall, raiseCall, loadCall}
-use Rattle.isa.specs.Answers.{writeAnswer, writtenOutput, viewAnswer, viewed}
+use Rattle.isa.specs.Answers.{writeAnswer, writtenOutput, viewAnswer, viewed, Told}
+use Rattle.floating.specs.Conversions.{toLong, toShort, longNumbers, shortNumbers}
 use Rattle.isa.specs.declared.machine.State.{State}
 use Rattle.isa.specs.declared.answer.Answer.{Answer}
 use Rattle.isa.specs.declared.answer.Target.{Target}
@@ -24,7 +25,7 @@ abbrev pub stateOrdered : State → List ℕ
 stateOrdered s = s .regs ++ controlWords s
 
 -- the number of a call that is no operation: a state of other than 154 words, a view of an unknown kind or into too few
--- words; document 02 gives 11 to 18 to its requests
+-- words, a conversion into other than the words of its form; document 02 gives 11 to 18 to its requests
 abbrev pub badCall : ℕ
 badCall = 255
 
@@ -135,3 +136,33 @@ hostView k a n m t room = cond (leb n room) (hostViewAnswer k a n m t) badCall
 
 unfoldable pub hostViewed : ℕ → ℕ → ℕ → List ℕ → List ℕ → List ℕ → List ℕ
 hostViewed k a n m t o = cond (leb n (length o)) (cond (knownTarget k) (onto (viewed (targetNamed k) a n m t) o) o) o
+
+-- ---- the conversions of the floating forms, into a lent output of exactly the words of the other form
+
+-- what a call answers and leaves of its output
+pub record Output : Type 0 where
+  pub number : ℕ
+  pub words : List ℕ
+
+abbrev pub outputLeft : ℕ → List ℕ → Output
+outputLeft n o = record { number = n; words = o }
+
+-- the output gets the words told, or stays if the call is refused
+unfoldable pub convertEnd : Told → List ℕ → Output
+convertEnd r o = outputLeft (r .number) (cond (eqb (r .number) 0) (r .values) o)
+
+abbrev pub shortCount : ℕ
+shortCount = 2
+
+abbrev pub longCount : ℕ
+longCount = 3
+
+unfoldable pub hostToLong : ℕ → ℕ → List ℕ → Output
+hostToLong a d o =
+    cond (eqb (length o) longCount) (convertEnd (longNumbers (toLong (record { a = a; d = d }))) o)
+    (outputLeft badCall o)
+
+unfoldable pub hostToShort : ℕ → ℕ → ℕ → List ℕ → Output
+hostToShort t a d o =
+    cond (eqb (length o) shortCount) (convertEnd (shortNumbers (toShort (record { t = t; a = a; d = d }))) o)
+    (outputLeft badCall o)

@@ -1,6 +1,6 @@
 // The operations for a host in C or Rust: numbers, lent words and records alone, nothing required of the caller. Each
-// function answers 0, document 01's number of a refusal, or 255 for a call that is no operation; only 0 changes lent
-// words. include/nd110.h declares them.
+// function answers 0, the number of a refusal in document 01 or 02, or 255 for a call that is no operation; only 0
+// changes lent words. include/nd110.h declares them.
 ghost use mathlib.Core.Path.{_≡_};
 ghost use mathlib.Core.Bool.{true, false, cond};
 ghost use Prim.Native.Nat.{ℕ};
@@ -10,11 +10,17 @@ ghost use lib.ListN.{length, take};
 ghost use Rattle.nd110.specs.Calls.{stateOrdered, leftOf, stepEnd, hostStep, runEnd, hostRun, reasonGiven};
 ghost use Rattle.nd110.specs.Calls.{answerEnd, hostRaise, hostLoad, hostWrite, hostWritten, knownTarget};
 ghost use Rattle.nd110.specs.Calls.{targetNamed, hostViewAnswer, hostView, hostViewed};
-ghost use Rattle.nd110.specs.Calls.{lentLeft, lentStepEnd, lentRaiseEnd};
+ghost use Rattle.nd110.specs.Calls.{lentLeft, lentStepEnd, lentRaiseEnd, outputLeft, hostToLong, hostToShort};
 ghost use Rattle.isa.specs.Machine.{levelCount, registerWords, stateWords};
 ghost use Rattle.isa.specs.Answers.{stepNumber, interruptGiven, stepCall, raiseCall, runCall};
 ghost use Rattle.run.specs.Runs.{stepCalled};
 ghost use Rattle.operations.specs.Calls.{runOf};
+use floating::form::Long;
+use floating::form::LongAnswer;
+use floating::form::Short;
+use floating::form::ShortAnswer;
+use floating::long_to_short;
+use floating::short_to_long;
 use image_load::bodies::control_of;
 use image_load::bodies::pcrs_of;
 use image_load::bodies::state_in;
@@ -31,6 +37,7 @@ use isa::machine::State;
 use isa::number::answer_number;
 use isa::number::interrupt_given;
 use isa::number::reason_number;
+use isa::number::refusal_number;
 use isa::number::run_number;
 use isa::number::step_number;
 use isa::number::steps_taken;
@@ -363,4 +370,46 @@ pub extern "C" fn nd110_view<'a>(
         copy(out, 0, part, 0, part.len());
     }
     n
+}
+
+// The words of the floating forms.
+const SHORT_WORDS: usize = 2;
+
+const LONG_WORDS: usize = 3;
+
+// A floating number of 32 bits, words A and D, to the output as one of 48, words T, A and D.
+#[no_mangle]
+pub extern "C" fn nd110_short_to_long(a: u16, d: u16, out: &mut [u16]) -> u16
+    ensures { λ r. ⌜ outputLeft r (now (out .exit)) ≡ hostToLong a d (now (out .entry)) ⌝ }
+{
+    if out.len() != LONG_WORDS {
+        return BAD_CALL;
+    }
+    match short_to_long(Short { a: a, d: d }) {
+        LongAnswer::Converted(l) => {
+            out[0] = l.t;
+            out[1] = l.a;
+            out[2] = l.d;
+            0
+        }
+        LongAnswer::Refused(x) => refusal_number(x),
+    }
+}
+
+// A floating number of 48 bits, words T, A and D, to the output as one of 32, words A and D.
+#[no_mangle]
+pub extern "C" fn nd110_long_to_short(t: u16, a: u16, d: u16, out: &mut [u16]) -> u16
+    ensures { λ r. ⌜ outputLeft r (now (out .exit)) ≡ hostToShort t a d (now (out .entry)) ⌝ }
+{
+    if out.len() != SHORT_WORDS {
+        return BAD_CALL;
+    }
+    match long_to_short(Long { t: t, a: a, d: d }) {
+        ShortAnswer::Converted(s) => {
+            out[0] = s.a;
+            out[1] = s.d;
+            0
+        }
+        ShortAnswer::Refused(x) => refusal_number(x),
+    }
 }
