@@ -6,6 +6,8 @@ ghost use lib.ListN.{length};
 use crate::base::base_state;
 use crate::base::fill;
 use crate::change::change_all;
+use crate::conversion::long;
+use crate::conversion::short;
 use crate::numbers::get;
 use crate::numbers::numbers;
 use crate::numbers::wide;
@@ -17,6 +19,7 @@ use isa::constant::STATE_WORDS;
 mod answer;
 mod base;
 mod change;
+mod conversion;
 mod numbers;
 mod operation;
 mod show;
@@ -43,11 +46,25 @@ fn one(words: &[u64], at: usize, mem: &mut [u16], tables: &mut [u16], out: &mut 
     show(told, mem, tables);
 }
 
-// The case at a place, on as much of memory and page tables as it names.
+// The machine's case at a place, on as much of memory and page tables as it names.
 fn sized(words: &[u64], at: usize, mem: &mut [u16], tables: &mut [u16], out: &mut [u16]) {
     let m = within(get(words, at, 2), mem);
     let t = within(get(words, at, 3), tables);
     one(words, at, &mut mem[..m], &mut tables[..t], out);
+}
+
+// The case at a place: of two or three words a conversion of the floating forms, else one of the machine.
+fn case(words: &[u64], at: usize, mem: &mut [u16], tables: &mut [u16], out: &mut [u16]) {
+    let n = get(words, at, 0);
+    if n == 2 {
+        short(words, at);
+        return;
+    }
+    if n == 3 {
+        long(words, at);
+        return;
+    }
+    sized(words, at, mem, tables, out);
 }
 
 // All cases, one after the other; each begins with the count of the numbers that follow.
@@ -58,7 +75,7 @@ fn all(words: &[u64], count: usize, mem: &mut [u16], tables: &mut [u16], out: &m
         if count <= at {
             return;
         }
-        sized(words, at, mem, tables, out);
+        case(words, at, mem, tables, out);
         at = std::num::wrapping_add_usize(at, wide(get(words, at, 0)));
         at = std::num::wrapping_add_usize(at, 1);
         turns += 1;

@@ -37,7 +37,7 @@ fn digit(w: u16) -> u8 {
 }
 
 // A word in octal.
-fn word(w: u16) {
+pub(crate) fn word(w: u16) {
     io::write_all(
         1,
         &[

@@ -45,6 +45,13 @@ pub enum Refusal {
     View = 9,
     /// Lent output too short.
     Short = 10,
+    /// Not zero, and a short form with exponent field 0 or a long one with the
+    /// mantissa's top bit 0.
+    Form = 15,
+    /// Long exponent that the short form has not.
+    Exponent = 16,
+    /// Long mantissa with more bits than the short form has.
+    Mantissa = 17,
 }
 
 impl Refusal {

@@ -12,6 +12,7 @@ pub mod cases;
 mod decode;
 mod disasm;
 mod execute;
+pub mod floating;
 mod image;
 mod machine;
 mod paging;

@@ -1,7 +1,9 @@
-//! Worked examples of the manuals, of docs/ARITHMETIC.md and of docs/ROTATIONS.md, by crate `manual`.
+//! Worked examples of the manuals, of docs/ARITHMETIC.md, of docs/ROTATIONS.md and of docs/FLOATING.md, by crate
+//! `manual`.
 
 use manual::Machine;
-use second::{Interrupt, State, disassemble, step};
+use second::floating::{long_to_short, short_to_long};
+use second::{Interrupt, Refusal, State, disassemble, step};
 
 fn second_step(machine: &mut Machine) {
     let mut state = State::from_words(&machine.state);
@@ -13,6 +15,15 @@ fn second_step(machine: &mut Machine) {
 #[test]
 fn examples() {
     let lines = manual::differences(second_step);
+    assert!(lines.is_empty(), "{}", lines.join("\n"));
+}
+
+#[test]
+fn floating() {
+    let lines = manual::floating::differences(
+        |short| short_to_long(short).map_err(Refusal::number),
+        |long| long_to_short(long).map_err(Refusal::number),
+    );
     assert!(lines.is_empty(), "{}", lines.join("\n"));
 }
 

@@ -29,8 +29,8 @@ same-length-3 c = search needs
 returns : tie.Need-returns Inv-loop μ-loop
 returns c = search needs
 
-sized-requires : tie.Need-sized-requires Inv-loop μ-loop
-sized-requires c κs = search needs
+case-requires : tie.Need-case-requires Inv-loop μ-loop
+case-requires c κs = search needs
 
 get-requires : tie.Need-get-requires Inv-loop μ-loop
 get-requires c κs = search needs
@@ -76,7 +76,7 @@ all-spec =
     same-length-2
     same-length-3
     returns
-    sized-requires
+    case-requires
     get-requires
     wide-requires
     wrapping-add-usize-requires

@@ -21,9 +21,9 @@ fn main() -> ExitCode {
             for (group, make) in groups {
                 let cases = make();
                 println!("check_{name}: {} cases, {group}", cases.len());
-                for case in cases {
-                    asked += &(case.line() + "\n");
-                    told += &(case.answer() + "\n");
+                for (line, answer) in cases {
+                    asked += &(line + "\n");
+                    told += &(answer + "\n");
                 }
             }
             let folder = Path::new(&dir).join(format!("check_{name}"));

@@ -2,6 +2,7 @@
 //! and their stored answers are this engine's. `NOTES.md` has the format.
 
 mod fetches;
+mod floating;
 mod images;
 mod instructions;
 mod pages;
@@ -17,32 +18,56 @@ use crate::step::{raise, run, step};
 use crate::{PAGE, TABLE_WORDS};
 use std::fmt::Write;
 
+/// The line of a case and that of its answer.
+pub type Lines = (String, String);
+
 /// Lists of cases, by name.
-type Group = (&'static str, fn() -> Vec<Case>);
+type Group = (&'static str, fn() -> Vec<Lines>);
 
 /// The programs `crates/check_NAME`, each with its groups of cases.
-pub const PROGRAMS: [(&str, &[Group]); 3] = [
+pub const PROGRAMS: [(&str, &[Group]); 4] = [
     (
         "instructions",
-        &[("unprivileged instructions", instructions::cases)],
+        &[(
+            "unprivileged instructions",
+            || lines(&instructions::cases()),
+        )],
     ),
     (
         "machine",
         &[
-            ("pages", pages::cases),
-            ("system", system::cases),
-            ("fetches", fetches::cases),
+            ("pages", || lines(&pages::cases())),
+            ("system", || lines(&system::cases())),
+            ("fetches", || lines(&fetches::cases())),
         ],
     ),
     (
         "operations",
         &[
-            ("runs", runs::cases),
-            ("images", images::cases),
-            ("words", words::cases),
+            ("runs", || lines(&runs::cases())),
+            ("images", || lines(&images::cases())),
+            ("words", || lines(&words::cases())),
+        ],
+    ),
+    (
+        "floating",
+        &[
+            ("examples", floating::examples),
+            ("ends", floating::ends),
+            ("exponents", floating::exponents),
+            ("low bits", floating::low_bits),
+            ("mantissa bits", floating::mantissa_bits),
+            ("zeros", floating::zeros),
+            ("order", floating::order),
+            ("random", floating::random),
         ],
     ),
 ];
+
+fn lines(cases: &[Case]) -> Vec<Lines> {
+    let lines = |case: &Case| (case.line(), case.answer());
+    cases.iter().map(lines).collect()
+}
 
 #[derive(Clone, Debug)]
 pub enum Operation {

@@ -118,7 +118,7 @@ fn numbers_and_sizes() {
     // What a program reads.
     for (name, groups) in PROGRAMS {
         let lines = groups.iter().flat_map(|(_, make)| make());
-        let lines: Vec<String> = lines.map(|case| case.line()).collect();
+        let lines: Vec<String> = lines.map(|(line, _)| line).collect();
         let bytes: usize = lines.iter().map(|line| line.len() + 1).sum();
         let octal = |c: char| ('0'..='7').contains(&c);
         let numbers = |line: &String| line.split(|c| !octal(c)).filter(|n| !n.is_empty()).count();
