@@ -22,7 +22,7 @@
  *   pointer to a record, which has its size by its type; the others take ND110_WORDS(&record).
  *
  * What can be seen, and is refused: every length; every word of the state; every word of an image; the level of a
- * raise; the kind, start and length of a view, sums that would wrap included.
+ * raise; the kind, start and length of a view, sums that would wrap included; every word of a number to be converted.
  *
  * What cannot be seen, and is the caller's to ensure:
  *   - a place that is null, or that no longer holds words (dangling): it is read or written all the same.
@@ -54,20 +54,28 @@ extern "C" {
 #define ND110_MEMORY_MOST 524288
 #define ND110_IMAGE_EXTRA 431
 
-/* Answers: done, document 01's refusals, and a call that is no operation of document 01 (255, as document 02 gives 11
- * to 18 to its requests). */
+/* Words of the floating forms: A D of the short one, 32 bits, and T A D of the long one, 48 bits. */
+#define ND110_SHORT_WORDS 2
+#define ND110_LONG_WORDS 3
+
+/* Answers: done, document 01's refusals, those of document 02's conversions, and a call that is no operation (255, as
+ * document 02 gives 11 to 18 to its requests). */
 #define ND110_DONE 0
-#define ND110_SIZES 1       /* memory or page tables of another size; before all others but ND110_BAD_CALL */
-#define ND110_STATE 2       /* a state out of its ranges; of load, the image's */
-#define ND110_RAISE_LEVEL 3 /* raise: a level other than 10 to 13 and 15 */
-#define ND110_CONTENTS 4    /* load: contents short, or over 32 entries */
-#define ND110_KIND 5        /* load: an entry of unknown kind */
-#define ND110_TARGET 6      /* load: an entry's start plus length beyond its target's size */
-#define ND110_OVERLAP 7     /* load: an entry that covers a word already named */
-#define ND110_BODIES 8      /* load: bodies other than exactly the rest of the image */
-#define ND110_VIEW 9        /* view: start plus length beyond the target's size */
-#define ND110_OUTPUT 10     /* write: fewer than memory + ND110_IMAGE_EXTRA words of output */
-#define ND110_BAD_CALL 255  /* a state of other than 154 words; view: an unknown kind, or too few words of output */
+#define ND110_SIZES 1           /* memory or page tables of another size; before all others but ND110_BAD_CALL */
+#define ND110_STATE 2           /* a state out of its ranges; of load, the image's */
+#define ND110_RAISE_LEVEL 3     /* raise: a level other than 10 to 13 and 15 */
+#define ND110_CONTENTS 4        /* load: contents short, or over 32 entries */
+#define ND110_KIND 5            /* load: an entry of unknown kind */
+#define ND110_TARGET 6          /* load: an entry's start plus length beyond its target's size */
+#define ND110_OVERLAP 7         /* load: an entry that covers a word already named */
+#define ND110_BODIES 8          /* load: bodies other than exactly the rest of the image */
+#define ND110_VIEW 9            /* view: start plus length beyond the target's size */
+#define ND110_OUTPUT 10         /* write: fewer than memory + ND110_IMAGE_EXTRA words of output */
+#define ND110_MALFORMED 15      /* not zero, and a short exponent field or the top bit of a long mantissa is 0 */
+#define ND110_EXPONENT_RANGE 16 /* long to short: an exponent field beyond 16,129 to 16,639 */
+#define ND110_PRECISION 17      /* long to short: any of the nine lowest mantissa bits is set */
+#define ND110_BAD_CALL 255      /* a state of other than 154 words; view: an unknown kind, or too few words of output;
+                                 * a conversion: an output of other than the form's words */
 
 /* Why a run ended. */
 #define ND110_STOPPED 0      /* the machine is stopped */
@@ -166,6 +174,19 @@ uint16_t nd110_view(uint16_t kind, size_t start, size_t len, const uint16_t *mem
  * tables + start, to be read in place. ND110_BAD_CALL (an unknown kind), ND110_SIZES, ND110_VIEW. */
 uint16_t nd110_view_answer(uint16_t kind, size_t start, size_t len, const uint16_t *memory,
                            size_t memory_len, const uint16_t *tables, size_t tables_len);
+
+/* Conversions between the two floating forms of document 002, only where the value is kept exactly. They ask for no
+ * machine. out has exactly the words of the form that is wanted, in the order given here; the number goes in by value,
+ * so out may be where it was read from.
+ *   short, A D    bit 15 of A the sign, bits 14-6 the exponent field, the other 22 the mantissa, its top bit implied
+ *   long, T A D   bit 15 of T the sign, bits 14-0 the exponent field, A and D the mantissa
+ * Zero is all bits 0 in each; a sign alone is ND110_MALFORMED. */
+
+/* A short number as a long one. ND110_BAD_CALL, ND110_MALFORMED. */
+uint16_t nd110_short_to_long(uint16_t a, uint16_t d, uint16_t *out, size_t out_len);
+
+/* A long number as a short one. ND110_BAD_CALL, ND110_MALFORMED, ND110_EXPONENT_RANGE, ND110_PRECISION. */
+uint16_t nd110_long_to_short(uint16_t t, uint16_t a, uint16_t d, uint16_t *out, size_t out_len);
 
 #ifdef __cplusplus
 }

@@ -20,6 +20,7 @@ static uint16_t state[ND110_STATE_WORDS];
 static nd110_state record;
 static uint16_t memory[4 * ND110_PAGE_WORDS], tables[ND110_TABLE_WORDS];
 static uint16_t out[WORDS(memory) + ND110_IMAGE_EXTRA];
+static uint16_t narrow[ND110_SHORT_WORDS], wide[ND110_LONG_WORDS];
 static uint16_t interrupt, reason, answer;
 static uint64_t steps;
 
@@ -40,6 +41,8 @@ static void do_load(void) { CALL(nd110_load(LENT(state), LENT(out), LENT(memory)
 static void do_write(void) { CALL(nd110_write(LENT(state), LENT(memory), LENT(tables), LENT(out))); }
 static void do_view(void) { CALL(nd110_view(ND110_MEMORY, 0, 8, LENT(memory), LENT(tables), LENT(out))); }
 static void do_view_answer(void) { CALL(nd110_view_answer(ND110_MEMORY, 0, 8, LENT(memory), LENT(tables))); }
+static void do_short_to_long(void) { CALL(nd110_short_to_long(0040240, 0, LENT(wide))); }
+static void do_long_to_short(void) { CALL(nd110_long_to_short(0040002, 0140000, 0, LENT(narrow))); }
 
 /* Level 1 on ring 2 with paging on, page n at page n, everything permitted to ring 2. A shift of A and D, SRB of level
  * 3 to address 1024, LRB of it, STF, MON 1, WAIT. The record is the same state. */
@@ -105,5 +108,7 @@ int main(void)
     show("nd110_load", do_load);
     show("nd110_view", do_view);
     show("nd110_view_answer", do_view_answer);
+    show("nd110_short_to_long", do_short_to_long);
+    show("nd110_long_to_short", do_long_to_short);
     return 0;
 }

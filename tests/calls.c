@@ -1,7 +1,8 @@
 /*
  * Every function of include/nd110.h called through the archive, with arguments that cannot be taken for one another:
  * state, memory, page tables, image and output have different lengths, and the answers tell the numbers apart. What
- * must come is written by hand from document 01. rust/nd110/tests/calls.rs is the same through the Rust crate.
+ * must come is written by hand from document 01, of the conversions from document 02, card 12.
+ * rust/nd110/tests/calls.rs is the same through the Rust crate.
  */
 #include "nd110.h"
 #include <stdio.h>
@@ -466,6 +467,121 @@ static void refused(void)
     guards();
 }
 
+/* A floating number in both forms: A D, and T A D. The first five are document 002's, with +3 as document 02 puts it
+ * right and the long row that 002 prints for it, 2 to the 159th. Then the ends of the match with either sign, the lowest
+ * mantissa bit of the short form, and a mantissa whose parts differ. */
+static const struct {
+    uint16_t s[ND110_SHORT_WORDS], l[ND110_LONG_WORDS];
+} forms[] = {
+    { { 0, 0 }, { 0, 0, 0 } },
+    { { 0040100, 0 }, { 0040001, 0100000, 0 } },
+    { { 0140100, 0 }, { 0140001, 0100000, 0 } },
+    { { 0040240, 0 }, { 0040002, 0140000, 0 } },
+    { { 0064000, 0 }, { 0040240, 0100000, 0 } },
+    { { 0000100, 0 }, { 0037401, 0100000, 0 } },
+    { { 0100100, 0 }, { 0137401, 0100000, 0 } },
+    { { 0077777, 0177777 }, { 0040377, 0177777, 0177000 } },
+    { { 0177777, 0177777 }, { 0140377, 0177777, 0177000 } },
+    { { 0040100, 1 }, { 0040001, 0100000, 001000 } },
+    { { 0040152, 0052525 }, { 0040001, 0152252, 0125000 } },
+};
+
+/* Short numbers with exponent field 0 that are not zero: all refused 15. Minus zero is the first. */
+static const uint16_t malformed[][ND110_SHORT_WORDS] = {
+    { 0100000, 0 }, { 0, 1 }, { 0, 0100000 }, { 1, 0 }, { 077, 0177777 }, { 0100077, 0177777 },
+};
+
+/* Long numbers and their refusals. Of those that fail several tests the first is told. */
+static const struct {
+    uint16_t answer, l[ND110_LONG_WORDS];
+} refused_longs[] = {
+    { 15, { 0100000, 0, 0 } },
+    { 15, { 0, 0, 1 } },
+    { 15, { 1, 0, 0 } },
+    { 15, { 0, 077777, 0 } },
+    { 15, { 0040001, 0, 0 } },
+    { 15, { 0140001, 077777, 0177000 } },
+    { 15, { 0037400, 077777, 0 } },
+    { 15, { 0040001, 077777, 1 } },
+    { 15, { 0040400, 077777, 0177777 } },
+    { 16, { 0, 0100000, 0 } },
+    { 16, { 0037400, 0100000, 0 } },
+    { 16, { 0137400, 0100000, 0 } },
+    { 16, { 0040400, 0100000, 0 } },
+    { 16, { 0140400, 0177777, 0177000 } },
+    { 16, { 077777, 0177777, 0177000 } },
+    { 16, { 0037400, 0100000, 1 } },
+    { 16, { 0040400, 0100000, 0400 } },
+    { 17, { 0040001, 0100000, 1 } },
+    { 17, { 0040001, 0100000, 0400 } },
+    { 17, { 0037401, 0100000, 0777 } },
+    { 17, { 0140377, 0177777, 0177777 } },
+};
+
+/* Where a number is converted to, between words that no call may touch. */
+static uint16_t number[7];
+#define NUMBER (number + 1)
+
+static void number_fill(void)
+{
+    for (size_t i = 0; i < WORDS(number); i++)
+        number[i] = GUARD;
+}
+
+/* The number begins with these words; the others are as they were filled. */
+static void number_is(int line, const uint16_t *want, size_t len)
+{
+    for (size_t i = 0; i < WORDS(number); i++)
+        is(line, "a word of the number", number[i], 1 <= i && i <= len ? want[i - 1] : GUARD);
+}
+#define NUMBER_IS(want, len) number_is(__LINE__, (want), (len))
+#define NUMBER_LEFT() NUMBER_IS(NULL, 0)
+
+/* Each way, and back over the words that were read. */
+static void converted(void)
+{
+    for (size_t i = 0; i < WORDS(forms); i++) {
+        const uint16_t *s = forms[i].s, *l = forms[i].l;
+        const uint16_t over[] = { s[0], s[1], l[2] };
+        number_fill();
+        IS(nd110_long_to_short(l[0], l[1], l[2], NUMBER, 2), 0);
+        NUMBER_IS(s, 2);
+        number_fill();
+        IS(nd110_short_to_long(s[0], s[1], NUMBER, 3), 0);
+        NUMBER_IS(l, 3);
+        IS(nd110_long_to_short(NUMBER[0], NUMBER[1], NUMBER[2], NUMBER, 2), 0);
+        NUMBER_IS(over, 3);
+        IS(nd110_short_to_long(NUMBER[0], NUMBER[1], NUMBER, 3), 0);
+        NUMBER_IS(l, 3);
+    }
+}
+
+static void not_converted(void)
+{
+    number_fill();
+    for (size_t i = 0; i < WORDS(malformed); i++)
+        IS(nd110_short_to_long(malformed[i][0], malformed[i][1], NUMBER, 3), 15);
+    for (size_t i = 0; i < WORDS(refused_longs); i++) {
+        const uint16_t *l = refused_longs[i].l;
+        IS(nd110_long_to_short(l[0], l[1], l[2], NUMBER, 2), refused_longs[i].answer);
+    }
+    for (unsigned bit = 0; bit < 9; bit++)
+        IS(nd110_long_to_short(0040002, 0140000, (uint16_t)(1u << bit), NUMBER, 2), 17);
+    /* another length is told before all else */
+    for (size_t len = 0; len <= 5; len++) {
+        if (len != 3) {
+            IS(nd110_short_to_long(0040240, 0, NUMBER, len), 255);
+            IS(nd110_short_to_long(0100000, 0, NUMBER, len), 255);
+        }
+        if (len != 2) {
+            IS(nd110_long_to_short(0040002, 0140000, 0, NUMBER, len), 255);
+            IS(nd110_long_to_short(0100000, 0, 1, NUMBER, len), 255);
+        }
+    }
+    IS(nd110_short_to_long(0040240, 0, ND110_LENT((uint16_t *)NULL, 3)), 255);
+    NUMBER_LEFT();
+}
+
 int main(void)
 {
     places();
@@ -477,6 +593,8 @@ int main(void)
     viewed();
     written();
     refused();
+    converted();
+    not_converted();
     if (failures == 0)
         printf("the C calls are as expected\n");
     return failures != 0;

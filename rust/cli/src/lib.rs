@@ -4,6 +4,7 @@ pub mod octal;
 
 use std::error::Error;
 use std::ffi::OsString;
+use std::fmt;
 use std::io::{self, ErrorKind};
 use std::ops::RangeInclusive;
 use std::process::ExitCode;
@@ -12,8 +13,24 @@ use std::vec::IntoIter;
 /// What ends a program early, to be told on standard error.
 pub type Trouble = Box<dyn Error>;
 
+/// Trouble with an exit status of its own.
+#[derive(Debug)]
+pub struct WithStatus {
+    pub status: u8,
+    pub trouble: Trouble,
+}
+
+impl fmt::Display for WithStatus {
+    fn fmt(&self, f: &mut fmt::Formatter<'_>) -> fmt::Result {
+        self.trouble.fmt(f)
+    }
+}
+
+impl Error for WithStatus {}
+
 /// Runs a program on its command line. `usage` begins with `usage: NAME`; it is printed for `--help`. Trouble is a
-/// message on standard error and exit status 1. Output that nobody reads any more is no trouble.
+/// message on standard error and exit status 1, or the one that it has. Output that nobody reads any more is no
+/// trouble.
 pub fn run(usage: &str, program: impl FnOnce(Args) -> Result<(), Trouble>) -> ExitCode {
     let words: Vec<OsString> = std::env::args_os().skip(1).collect();
     if words.iter().any(|word| word == "--help") {
@@ -24,7 +41,8 @@ pub fn run(usage: &str, program: impl FnOnce(Args) -> Result<(), Trouble>) -> Ex
         Err(trouble) if !unread(&trouble) => {
             let name = usage.split_whitespace().nth(1).unwrap_or_default();
             eprintln!("{name}: {trouble}");
-            ExitCode::FAILURE
+            let with: Option<&WithStatus> = trouble.downcast_ref();
+            with.map_or(ExitCode::FAILURE, |with| ExitCode::from(with.status))
         }
         _ => ExitCode::SUCCESS,
     }
@@ -73,6 +91,13 @@ impl Args {
         number(name, &word.to_string_lossy(), range)
     }
 
+    /// The words that are left as octal numbers of 16 bits, each in one to six digits.
+    pub fn octal_words(self, name: &str) -> Result<Vec<u16>, Trouble> {
+        self.0
+            .map(|word| octal_number(name, &word.to_string_lossy()))
+            .collect()
+    }
+
     /// No word is left.
     pub fn end(mut self) -> Result<(), Trouble> {
         match self.0.next() {
@@ -97,6 +122,14 @@ fn number(name: &str, text: &str, range: RangeInclusive<u64>) -> Result<u64, Tro
         )
         .into()),
     }
+}
+
+fn octal_number(name: &str, text: &str) -> Result<u16, Trouble> {
+    let short = text.len() <= 6;
+    octal::number(text).filter(|_| short).ok_or_else(|| {
+        format!("{name} is octal, one to six digits, at most 177777, not '{text}'; see --help")
+            .into()
+    })
 }
 
 #[cfg(test)]
@@ -131,6 +164,16 @@ mod tests {
         assert!(two.number("PAGES", 1..=512).is_err());
         let most = args(&["18446744073709551615"]).number("STEPS", 0..=u64::MAX);
         assert_eq!(most.unwrap(), u64::MAX);
+    }
+
+    #[test]
+    fn octal_numbers_are_strict() {
+        for text in ["", "8", "x", "+5", "-1", "5 ", "0o5", "200000", "0000005"] {
+            assert!(args(&["0", text]).octal_words("WORD").is_err(), "{text}");
+        }
+        let words = args(&["0", "10", "000377", "177777"]).octal_words("WORD");
+        assert_eq!(words.unwrap(), [0, 8, 255, 65535]);
+        assert_eq!(args(&[]).octal_words("WORD").unwrap(), []);
     }
 
     #[test]

@@ -1,13 +1,15 @@
 //! The worked examples of the manuals as tables: document 002, the instruction set, and document 000, the functional
-//! description; and those of docs/ARITHMETIC.md and docs/ROTATIONS.md. The tests `manual` of `second` and `nd110` hold
-//! the second engine and the proved engine to them.
+//! description; and those of docs/ARITHMETIC.md, docs/ROTATIONS.md and docs/FLOATING.md. The tests `manual` of `second`
+//! and `nd110` hold the second engine and the proved engine to them.
 //!
 //! What must come is typed from the manuals or stands on those pages; no engine computes it. An example is a whole
-//! machine before and after, and every word that it does not name must stay.
+//! machine before and after, and every word that it does not name must stay. The numbers of docs/FLOATING.md are no
+//! instructions: `floating` has them as conversions.
 
 mod arithmetic;
 mod document000;
 mod document002;
+pub mod floating;
 mod page;
 mod rotations;
 mod words;
@@ -72,7 +74,7 @@ pub struct Example {
     pub after: Words,
 }
 
-/// Those of both manuals and of the pages.
+/// Those of both manuals and of the pages with instructions.
 pub fn examples() -> impl Iterator<Item = &'static Example> {
     let manuals = document002::EXAMPLES.iter().chain(document000::EXAMPLES);
     let pages = arithmetic::EXAMPLES

@@ -1,4 +1,5 @@
-//! The proved ND-110 engine for a Rust host: every operation of document 01 over lent words.
+//! The proved ND-110 engine for a Rust host: every operation of document 01 over lent words, and the conversions of
+//! document 02 between the two floating forms.
 //!
 //! Each function calls the static library's function of the same name. What the library cannot see for itself, slices
 //! and references of Rust ensure: they are not null, as long as they say, and do not overlap. So no call here is
@@ -26,8 +27,8 @@ mod numbers;
 
 pub use machine::Machine;
 pub use numbers::{
-    Control, IMAGE_EXTRA, MEMORY_MOST, PAGE_WORDS, Reason, Refusal, Register, STATE_WORDS,
-    TABLE_WORDS, Target, VERSION,
+    Control, IMAGE_EXTRA, LONG_WORDS, MEMORY_MOST, PAGE_WORDS, Reason, Refusal, Register,
+    SHORT_WORDS, STATE_WORDS, TABLE_WORDS, Target, VERSION,
 };
 
 /// A state as words in image order: register n of a level is word 8 * level + n, control word n is word 128 + n. It is
@@ -212,4 +213,29 @@ pub fn view_into(
         tables,
         out,
     ))
+}
+
+/// A short floating number of document 002, words A and D, as the long one of the same value, words T, A and D. Refuses
+/// 15.
+///
+/// ```
+/// let three = nd110::short_to_long([0o040240, 0])?;
+/// assert_eq!(three, [0o040002, 0o140000, 0]);
+/// assert_eq!(nd110::long_to_short(three), Ok([0o040240, 0]));
+/// # Ok::<(), nd110::Refusal>(())
+/// ```
+pub fn short_to_long(short: [u16; SHORT_WORDS]) -> Result<[u16; LONG_WORDS], Refusal> {
+    let [a, d] = short;
+    let mut long = [0; LONG_WORDS];
+    answer(library::short_to_long(a, d, &mut long))?;
+    Ok(long)
+}
+
+/// A long floating number, words T, A and D, as the short one of exactly the same value, words A and D. Refuses 15, 16,
+/// 17.
+pub fn long_to_short(long: [u16; LONG_WORDS]) -> Result<[u16; SHORT_WORDS], Refusal> {
+    let [t, a, d] = long;
+    let mut short = [0; SHORT_WORDS];
+    answer(library::long_to_short(t, a, d, &mut short))?;
+    Ok(short)
 }

@@ -103,6 +103,8 @@ mod raw {
             tables: *const u16,
             tables_len: usize,
         ) -> u16;
+        pub fn nd110_short_to_long(a: u16, d: u16, out: *mut u16, out_len: usize) -> u16;
+        pub fn nd110_long_to_short(t: u16, a: u16, d: u16, out: *mut u16, out_len: usize) -> u16;
     }
 }
 
@@ -279,5 +281,85 @@ pub fn view_answer(kind: u16, start: usize, len: usize, memory: &[u16], tables: 
             tables.as_ptr(),
             tables.len(),
         )
+    }
+}
+
+pub fn short_to_long(a: u16, d: u16, out: &mut [u16]) -> u16 {
+    unsafe { raw::nd110_short_to_long(a, d, out.as_mut_ptr(), out.len()) }
+}
+
+pub fn long_to_short(t: u16, a: u16, d: u16, out: &mut [u16]) -> u16 {
+    unsafe { raw::nd110_long_to_short(t, a, d, out.as_mut_ptr(), out.len()) }
+}
+
+/// What no other function of this crate can ask for: conversions to outputs of any length, and over the words that were
+/// read.
+#[cfg(test)]
+mod tests {
+    use super::*;
+
+    /// What an output holds before a conversion.
+    const F: u16 = 0o125252;
+
+    /// The answer of a conversion that is lent so many words; and these words, with those after them.
+    fn lent(len: usize, convert: impl Fn(&mut [u16]) -> u16) -> (u16, [u16; 5]) {
+        let mut words = [F; 5];
+        let number = convert(&mut words[..len]);
+        (number, words)
+    }
+
+    /// Zero, +3 and minus zero.
+    #[test]
+    fn longs_of_any_length() {
+        for len in 0..=4 {
+            let given = [[0, 0], [0o040240, 0], [0o100000, 0]]
+                .map(|[a, d]| lent(len, |out| short_to_long(a, d, out)));
+            let wanted = match len {
+                3 => [
+                    (0, [0, 0, 0, F, F]),
+                    (0, [0o040002, 0o140000, 0, F, F]),
+                    (15, [F; 5]),
+                ],
+                _ => [(255, [F; 5]); 3],
+            };
+            assert_eq!(given, wanted, "{len} words");
+        }
+    }
+
+    /// Zero, +3, minus zero, an exponent beyond the match, and a mantissa bit too many.
+    #[test]
+    fn shorts_of_any_length() {
+        for len in 0..=4 {
+            let given = [
+                [0, 0, 0],
+                [0o040002, 0o140000, 0],
+                [0o100000, 0, 0],
+                [0o040400, 0o140000, 0],
+                [0o040002, 0o140000, 1],
+            ]
+            .map(|[t, a, d]| lent(len, |out| long_to_short(t, a, d, out)));
+            let wanted = match len {
+                2 => [
+                    (0, [0, 0, F, F, F]),
+                    (0, [0o040240, 0, F, F, F]),
+                    (15, [F; 5]),
+                    (16, [F; 5]),
+                    (17, [F; 5]),
+                ],
+                _ => [(255, [F; 5]); 5],
+            };
+            assert_eq!(given, wanted, "{len} words");
+        }
+    }
+
+    #[test]
+    fn over_the_words_that_were_read() {
+        let mut words = [0o040001, 0o152252, 0o125000];
+        let [t, a, d] = words;
+        assert_eq!(long_to_short(t, a, d, &mut words[..2]), 0);
+        assert_eq!(words, [0o040152, 0o052525, 0o125000]);
+        let [a, d, _] = words;
+        assert_eq!(short_to_long(a, d, &mut words), 0);
+        assert_eq!(words, [0o040001, 0o152252, 0o125000]);
     }
 }

@@ -16,6 +16,10 @@ pub const PAGE_WORDS: usize = 1024;
 pub const MEMORY_MOST: usize = 524_288;
 /// Words of a written image beside memory.
 pub const IMAGE_EXTRA: usize = 431;
+/// Words of a short floating number, 32 bits: A, D.
+pub const SHORT_WORDS: usize = 2;
+/// Words of a long floating number, 48 bits: T, A, D.
+pub const LONG_WORDS: usize = 3;
 
 /// Why an operation refused. A refused call changes nothing.
 #[derive(Clone, Copy, Debug, PartialEq, Eq)]
@@ -42,7 +46,13 @@ pub enum Refusal {
     View = 9,
     /// Output too short for the image.
     Output = 10,
-    /// A call that is no operation of document 01: of what the types here leave, a view into too few words.
+    /// A floating number that is not zero and has a short exponent field of 0, or a long mantissa whose top bit is 0.
+    Malformed = 15,
+    /// A long exponent field beyond 16,129 to 16,639.
+    ExponentRange = 16,
+    /// A long mantissa with any of its nine lowest bits set.
+    Precision = 17,
+    /// A call that is no operation: of what the types here leave, a view into too few words.
     BadCall = 255,
 }
 
@@ -59,10 +69,13 @@ impl Refusal {
         Refusal::Bodies,
         Refusal::View,
         Refusal::Output,
+        Refusal::Malformed,
+        Refusal::ExponentRange,
+        Refusal::Precision,
         Refusal::BadCall,
     ];
 
-    /// Document 01's number, or 255.
+    /// The number of document 01 or 02, or 255.
     pub fn number(self) -> u16 {
         self as u16
     }
@@ -81,6 +94,11 @@ impl fmt::Display for Refusal {
             Refusal::Bodies => "the image's bodies are not exactly the rest of it",
             Refusal::View => "a view beyond its target's size",
             Refusal::Output => "too few words of output for the image",
+            Refusal::Malformed => {
+                "not zero, and a short exponent field or the top bit of a long mantissa is 0"
+            }
+            Refusal::ExponentRange => "a long exponent field beyond 16,129 to 16,639",
+            Refusal::Precision => "a long mantissa with any of its nine lowest bits set",
             Refusal::BadCall => "a call that is no operation",
         };
         write!(f, "refused {}: {why}", self.number())

@@ -1,9 +1,11 @@
 //! Every function of this crate called through the archive, with arguments that cannot be taken for one another. What
-//! must come is written by hand from document 01. tests/calls.c is the same through the C header.
+//! must come is written by hand from document 01, of the conversions from document 02, card 12. tests/calls.c is the
+//! same through the C header.
 
 use nd110::{
     IMAGE_EXTRA, PAGE_WORDS, Reason, Refusal, STATE_WORDS, State, TABLE_WORDS, Target, image_words,
-    load, raise, raise_lent, run, run_to_interrupt, step, step_lent, view, view_into, write,
+    load, long_to_short, raise, raise_lent, run, run_to_interrupt, short_to_long, step, step_lent,
+    view, view_into, write,
 };
 
 const MEMORY: usize = 2 * PAGE_WORDS;
@@ -307,6 +309,78 @@ fn refused() {
         assert_eq!(load(image, &mut m.memory, &mut m.tables), Err(refusal));
     }
     assert_eq!(m, loaded);
+}
+
+/// A floating number in both forms. The first five are document 002's, with +3 as document 02 puts it right and the
+/// long row that 002 prints for it, 2 to the 159th. Then the ends of the match with either sign, the lowest mantissa bit
+/// of the short form, and a mantissa whose parts differ.
+const FORMS: [([u16; 2], [u16; 3]); 11] = [
+    ([0, 0], [0, 0, 0]),
+    ([0o040100, 0], [0o040001, 0o100000, 0]),
+    ([0o140100, 0], [0o140001, 0o100000, 0]),
+    ([0o040240, 0], [0o040002, 0o140000, 0]),
+    ([0o064000, 0], [0o040240, 0o100000, 0]),
+    ([0o000100, 0], [0o037401, 0o100000, 0]),
+    ([0o100100, 0], [0o137401, 0o100000, 0]),
+    ([0o077777, 0o177777], [0o040377, 0o177777, 0o177000]),
+    ([0o177777, 0o177777], [0o140377, 0o177777, 0o177000]),
+    ([0o040100, 1], [0o040001, 0o100000, 0o001000]),
+    ([0o040152, 0o052525], [0o040001, 0o152252, 0o125000]),
+];
+
+#[test]
+fn converted() {
+    for (short, long) in FORMS {
+        assert_eq!(short_to_long(short), Ok(long));
+        assert_eq!(long_to_short(long), Ok(short));
+    }
+}
+
+/// Of numbers that fail several tests the first is told; a sign alone is not zero.
+#[test]
+fn not_converted() {
+    use Refusal::{ExponentRange, Malformed, Precision};
+    for short in [
+        [0o100000, 0],
+        [0, 1],
+        [0, 0o100000],
+        [1, 0],
+        [0o77, 0o177777],
+        [0o100077, 0o177777],
+    ] {
+        assert_eq!(short_to_long(short), Err(Malformed), "{short:?}");
+    }
+    for (long, refusal) in [
+        ([0o100000, 0, 0], Malformed),
+        ([0, 0, 1], Malformed),
+        ([1, 0, 0], Malformed),
+        ([0, 0o77777, 0], Malformed),
+        ([0o040001, 0, 0], Malformed),
+        ([0o140001, 0o77777, 0o177000], Malformed),
+        ([0o037400, 0o77777, 0], Malformed),
+        ([0o040001, 0o77777, 1], Malformed),
+        ([0o040400, 0o77777, 0o177777], Malformed),
+        ([0, 0o100000, 0], ExponentRange),
+        ([0o037400, 0o100000, 0], ExponentRange),
+        ([0o137400, 0o100000, 0], ExponentRange),
+        ([0o040400, 0o100000, 0], ExponentRange),
+        ([0o140400, 0o177777, 0o177000], ExponentRange),
+        ([0o77777, 0o177777, 0o177000], ExponentRange),
+        ([0o037400, 0o100000, 1], ExponentRange),
+        ([0o040400, 0o100000, 0o400], ExponentRange),
+        ([0o037401, 0o100000, 0o777], Precision),
+        ([0o140377, 0o177777, 0o177777], Precision),
+    ] {
+        assert_eq!(long_to_short(long), Err(refusal), "{long:?}");
+    }
+    for bit in 0..9 {
+        let long = [0o040002, 0o140000, 1 << bit];
+        assert_eq!(long_to_short(long), Err(Precision), "{long:?}");
+    }
+    assert_eq!(
+        [Malformed, ExponentRange, Precision].map(Refusal::number),
+        [15, 16, 17]
+    );
 }
 
 #[test]

@@ -127,6 +127,8 @@ fn numbers() {
         ("PAGE_WORDS", PAGE_WORDS),
         ("MEMORY_MOST", MEMORY_MOST),
         ("IMAGE_EXTRA", IMAGE_EXTRA),
+        ("SHORT_WORDS", SHORT_WORDS),
+        ("LONG_WORDS", LONG_WORDS),
         ("DONE", 0),
     ]
     .map(|(name, value)| (name.to_string(), value))

@@ -5,9 +5,10 @@ use std::process::{Command, Stdio};
 
 const TRACE: &str = env!("CARGO_BIN_EXE_trace");
 const OCTAL: &str = env!("CARGO_BIN_EXE_octal_to_image");
+const FLOATING: &str = env!("CARGO_BIN_EXE_convert_floating");
 
-/// What a program does with an input: whether it succeeds, standard output and standard error.
-fn run(program: &str, args: &[&str], input: &[u8]) -> (bool, Vec<u8>, String) {
+/// What a program does with an input: its exit status, standard output and standard error.
+fn run(program: &str, args: &[&str], input: &[u8]) -> (i32, Vec<u8>, String) {
     let mut child = Command::new(program)
         .args(args)
         .stdin(Stdio::piped())
@@ -19,19 +20,15 @@ fn run(program: &str, args: &[&str], input: &[u8]) -> (bool, Vec<u8>, String) {
     let _ = child.stdin.take().expect("piped").write_all(input);
     let output = child.wait_with_output().expect("ends");
     let told = String::from_utf8(output.stderr).expect("text");
-    assert!(
-        output.status.success() || output.status.code() == Some(1),
-        "{}",
-        output.status
-    );
-    (output.status.success(), output.stdout, told)
+    let status = output.status.code().expect("no signal");
+    (status, output.stdout, told)
 }
 
 /// The lines of a trace, blanks dropped.
 fn trace(args: &[&str], image: &[u16]) -> Vec<Vec<String>> {
     let bytes: Vec<u8> = image.iter().flat_map(|word| word.to_be_bytes()).collect();
-    let (ok, out, told) = run(TRACE, args, &bytes);
-    assert_eq!((ok, told.as_str()), (true, ""));
+    let (status, out, told) = run(TRACE, args, &bytes);
+    assert_eq!((status, told.as_str()), (0, ""));
     String::from_utf8(out)
         .expect("text")
         .lines()
@@ -39,11 +36,15 @@ fn trace(args: &[&str], image: &[u16]) -> Vec<Vec<String>> {
         .collect()
 }
 
-/// Fails with a message that has this text, and prints nothing.
-fn fails(program: &str, args: &[&str], input: &[u8], why: &str) {
-    let (ok, out, told) = run(program, args, input);
-    assert!(!ok && out.is_empty(), "{args:?}");
+/// Ends with this exit status and a message that has this text, and prints nothing.
+fn ends(program: &str, args: &[&str], input: &[u8], status: i32, why: &str) {
+    let (ended, out, told) = run(program, args, input);
+    assert_eq!((ended, &out[..]), (status, &b""[..]), "{args:?}");
     assert!(told.contains(why), "{args:?}: {told}");
+}
+
+fn fails(program: &str, args: &[&str], input: &[u8], why: &str) {
+    ends(program, args, input, 1, why);
 }
 
 const ADD: [u16; 9] = [1, 1, 0, 0, 0, 3, 0o170405, 0o172403, 0o151000];
@@ -98,18 +99,71 @@ fn trace_refuses() {
 fn octal_to_image() {
     let text = include_bytes!("../../../examples/add.octal");
     let image: &[u8] = include_bytes!("../../../examples/add.image");
-    let (ok, out, told) = run(OCTAL, &[], text);
-    assert_eq!((ok, &out[..], told.as_str()), (true, image, ""));
+    let (status, out, told) = run(OCTAL, &[], text);
+    assert_eq!((status, &out[..], told.as_str()), (0, image, ""));
     fails(OCTAL, &[], b"1\n2 200000\n", "line 2: '200000'");
     fails(OCTAL, &[], b"1\n\n# 8\n7 8\n", "line 4: '8'");
     fails(OCTAL, &[], b"1 \xff", "line 1: ");
     fails(OCTAL, &["add.octal"], text, "one word too many");
 }
 
+/// Document 002's numbers, +3 as document 02 puts it right, and the ends of what the forms share.
+#[test]
+fn convert_floating() {
+    for (short, long) in [
+        ("000000 000000", "000000 000000 000000"),
+        ("040100 000000", "040001 100000 000000"),
+        ("140100 000000", "140001 100000 000000"),
+        ("040240 000000", "040002 140000 000000"),
+        ("064000 000000", "040240 100000 000000"),
+        ("000100 000000", "037401 100000 000000"),
+        ("077777 177777", "040377 177777 177000"),
+    ] {
+        for (number, converted) in [(short, long), (long, short)] {
+            let args: Vec<&str> = number.split(' ').collect();
+            let (status, out, told) = run(FLOATING, &args, &[]);
+            let line = format!("{converted}\n").into_bytes();
+            assert_eq!((status, out, told.as_str()), (0, line, ""), "{number}");
+        }
+    }
+    let (status, out, _) = run(FLOATING, &["40002", "140000", "0"], &[]);
+    assert_eq!((status, &out[..]), (0, &b"040240 000000\n"[..]));
+}
+
+#[test]
+fn convert_floating_refuses() {
+    for (number, status, why) in [
+        ("100000 0", 15, "refused 15: "),
+        ("77 177777", 15, "exponent field"),
+        ("100000 0 0", 15, "refused 15: "),
+        ("40400 77777 1", 15, "top bit"),
+        ("37400 100000 0", 16, "refused 16: "),
+        ("40400 100000 1", 16, "16,129 to 16,639"),
+        ("40001 100000 1", 17, "refused 17: "),
+        ("40377 177777 177400", 17, "nine lowest bits"),
+    ] {
+        let args: Vec<&str> = number.split(' ').collect();
+        ends(FLOATING, &args, &[], status, why);
+    }
+}
+
+#[test]
+fn convert_floating_takes_two_or_three_octal_words() {
+    let count: [&[&str]; 3] = [&[], &["0"], &["0", "0", "0", "0"]];
+    for words in count {
+        fails(FLOATING, words, &[], "two words");
+    }
+    for word in ["8", "200000", "-1", "+1", "", "x", "0o1", "1 1", "0000001"] {
+        let why = format!("not '{word}'");
+        fails(FLOATING, &["0", word], &[], &why);
+        fails(FLOATING, &[word, "0", "0"], &[], &why);
+    }
+}
+
 #[test]
 fn help() {
-    for program in [TRACE, OCTAL] {
-        let (ok, out, told) = run(program, &["--help"], &[]);
-        assert!(ok && out.starts_with(b"usage: ") && told.is_empty());
+    for program in [TRACE, OCTAL, FLOATING] {
+        let (status, out, told) = run(program, &["--help"], &[]);
+        assert!(status == 0 && out.starts_with(b"usage: ") && told.is_empty());
     }
 }
