@@ -179,13 +179,16 @@ pub fn long_to_short(l: Long) -> ShortAnswer
         return ShortAnswer::Converted(Short { a: 0, d: 0 });
     }
     let f = long_fields(l);
-    if malformed_long(f) {
+    let malformed = malformed_long(f);
+    let beyond = beyond_match(f);
+    let inexact = loses_bits(f);
+    if malformed {
         return ShortAnswer::Refused(Refusal::Malformed);
     }
-    if beyond_match(f) {
+    if beyond {
         return ShortAnswer::Refused(Refusal::ExponentRange);
     }
-    if loses_bits(f) {
+    if inexact {
         return ShortAnswer::Refused(Refusal::Precision);
     }
     ShortAnswer::Converted(short_of(shorten(f)))

@@ -6,6 +6,8 @@ use mathlib.Core.Bool.{false}
 use mathlib.Core.List.{[], _∷_}
 use lib.ListN.{getD}
 use lib.Dec.{eqb}
+use native.Mathlib.Omega.{arith}
+use borrow.Author.Tests.{ne-eqb}
 use Rattle.isa.specs.Answers.{refusalNumber}
 use Rattle.isa.specs.declared.answer.Refusal.{Refusal}
 use Rattle.isa.specs.declared.answer.Refusal.the-variants.{Sizes, State as StateRange, RaiseLevel, Contents}
@@ -38,17 +40,8 @@ refusal-again Malformed = refl
 refusal-again ExponentRange = refl
 refusal-again Precision = refl
 
+-- 0 would stand for Sizes, whose number is 1
 pub refusal-above : (x : Refusal) → eqb (refusalNumber x) 0 ≡ false
-refusal-above Sizes = refl
-refusal-above StateRange = refl
-refusal-above RaiseLevel = refl
-refusal-above Contents = refl
-refusal-above Kind = refl
-refusal-above TargetSize = refl
-refusal-above Overlap = refl
-refusal-above Bodies = refl
-refusal-above View = refl
-refusal-above Output = refl
-refusal-above Malformed = refl
-refusal-above ExponentRange = refl
-refusal-above Precision = refl
+refusal-above x =
+    ne-eqb (refusalNumber x) 0
+    (λ z. let e : refusalNumber x ≡ 1 = ap refusalNumber (sym (refusal-again x) ∙ ap refusalAt z) in omega (arith, z, e))

@@ -3,8 +3,10 @@
 use mathlib.Core.Path.{_≡_, sym, ap, _∙_, subst⁻¹}
 use mathlib.Core.Bool.{false}
 use borrow.Author.Needs.{needs}
-use Rattle.floating.specs.Forms.{FitsShort, FitsLong, shortOf, isZeroLong}
+use Rattle.floating.specs.Forms.{FitsShort, FitsLong, longFields, shortOf, isZeroLong}
 use Rattle.floating.specs.Conversions.{malformedLong, beyondMatch}
+use Rattle.floating.specs.declared.form.Long.{Long}
+use Rattle.floating.specs.declared.form.Fields.{Fields}
 use Rattle.floating.specs.declared.form.ShortAnswer.the-variants.{Converted as IsShort}
 use Rattle.floating.proofs.Fields.{long-fits, matched, shortened-fits}
 use Rattle.floating.proofs.Answers.{short-zero, short-malformed, short-beyond, short-inexact, short-converted}
@@ -12,24 +14,31 @@ use Rattle.floating.proofs.Answers.{short-told}
 use Rattle.floating.proofs.long_to_short.Statement.{statement}
 use Rattle.floating.proofs.long_to_short.Tie as tie
 
--- not zero: the place after the fields are taken, and the start
-abbrev started : tie.After-long-fields → tie.Start
-started c = c .before .before .before
+-- the place after the three tests of a number that is not zero, and what they were made on
+abbrev taken : tie.After-loses-bits → tie.After-long-fields
+taken c = c .before .before .before
 
-not-zero : (c : tie.After-long-fields) → isZeroLong (started c .args .l) ≡ false
-not-zero c = sym (c .before .before .is-zero-long .ensures) ∙ c .before .if1 .left
+abbrev number : tie.After-loses-bits → Long
+number c = taken c .before .before .before .args .l
 
-fits : (c : tie.After-long-fields) → FitsLong (c .long-fields .result)
-fits c =
-    let l = started c .args .l in
-    subst⁻¹ FitsLong (c .long-fields .ensures) (long-fits l (search needs, search needs, search needs))
+abbrev fields : tie.After-loses-bits → Fields
+fields c = taken c .long-fields .result
+
+of-number : (c : tie.After-loses-bits) → fields c ≡ longFields (number c)
+of-number c = taken c .long-fields .ensures
+
+not-zero : (c : tie.After-loses-bits) → isZeroLong (number c) ≡ false
+not-zero c = sym (taken c .before .before .is-zero-long .ensures) ∙ taken c .before .if1 .left
+
+fits : (c : tie.After-loses-bits) → FitsLong (fields c)
+fits c = subst⁻¹ FitsLong (of-number c) (long-fits (number c) (search needs, search needs, search needs))
 
 -- the tests that have been passed
-formed : (c : tie.Else2) → malformedLong (c .before .before .long-fields .result) ≡ false
-formed c = sym (c .before .malformed-long .ensures) ∙ c .if2 .left
+formed : (c : tie.Else2) → malformedLong (fields (c .before)) ≡ false
+formed c = sym (c .before .before .before .malformed-long .ensures) ∙ c .if2 .left
 
-within : (c : tie.Else3) → beyondMatch (c .before .before .before .before .long-fields .result) ≡ false
-within c = sym (c .before .beyond-match .ensures) ∙ c .if3 .left
+within : (c : tie.Else3) → beyondMatch (fields (c .before .before)) ≡ false
+within c = sym (c .before .before .before .beyond-match .ensures) ∙ c .if3 .left
 
 is-zero-long-requires : tie.Need-is-zero-long-requires
 is-zero-long-requires c κs = search needs
@@ -45,62 +54,59 @@ long-fields-requires c κs = search needs
 malformed-long-requires : tie.Need-malformed-long-requires
 malformed-long-requires c κs = search needs
 
--- refusal 15
-returns-2 : tie.Need-returns-2
-returns-2 c =
-    let taken = c .before .before in
-    short-told (started taken .args .l) _
-    (short-malformed _ _ (taken .long-fields .ensures) (not-zero taken)
-    (sym (c .before .malformed-long .ensures) ∙ c .if2 .taken))
-
 beyond-match-requires : tie.Need-beyond-match-requires
 beyond-match-requires c κs = search needs
-
--- refusal 16
-returns-3 : tie.Need-returns-3
-returns-3 c =
-    let second = c .before .before in
-    let taken = second .before .before in
-    short-told (started taken .args .l) _
-    (short-beyond _ _ (taken .long-fields .ensures) (not-zero taken) (formed second)
-    (sym (c .before .beyond-match .ensures) ∙ c .if3 .taken))
 
 loses-bits-requires : tie.Need-loses-bits-requires
 loses-bits-requires c κs = search needs
 
+-- refusal 15
+returns-2 : tie.Need-returns-2
+returns-2 c =
+    let tested = c .before in
+    short-told (number tested) _
+    (short-malformed _ _ (of-number tested) (not-zero tested)
+    (sym (tested .before .before .malformed-long .ensures) ∙ c .if2 .taken))
+
+-- refusal 16
+returns-3 : tie.Need-returns-3
+returns-3 c =
+    let tested = c .before .before in
+    short-told (number tested) _
+    (short-beyond _ _ (of-number tested) (not-zero tested) (formed (c .before))
+    (sym (tested .before .beyond-match .ensures) ∙ c .if3 .taken))
+
 -- refusal 17
 returns-4 : tie.Need-returns-4
 returns-4 c =
-    let third = c .before .before in
-    let second = third .before .before in
-    let taken = second .before .before in
-    short-told (started taken .args .l) _
-    (short-inexact _ _ (taken .long-fields .ensures) (not-zero taken) (formed second) (within third)
-    (sym (c .before .loses-bits .ensures) ∙ c .if4 .taken))
+    let third = c .before in
+    let tested = third .before .before in
+    short-told (number tested) _
+    (short-inexact _ _ (of-number tested) (not-zero tested) (formed (third .before)) (within third)
+    (sym (tested .loses-bits .ensures) ∙ c .if4 .taken))
 
 shorten-requires : tie.Need-shorten-requires
-shorten-requires c κs = within (c .before .before)
+shorten-requires c κs = within (c .before)
 
 short-of-requires : tie.Need-short-of-requires
 short-of-requires c κs =
     let fourth = c .before in
-    let third = fourth .before .before in
-    let second = third .before .before in
+    let third = fourth .before in
+    let tested = third .before .before in
     subst⁻¹ FitsShort (c .shorten .ensures)
     (shortened-fits _
-    (matched _ (fits (second .before .before)) (formed second) (within third)
-    (sym (fourth .before .loses-bits .ensures) ∙ fourth .if4 .left)))
+    (matched _ (fits tested) (formed (third .before)) (within third)
+    (sym (tested .loses-bits .ensures) ∙ fourth .if4 .left)))
 
 -- converted
 returns-5 : tie.Need-returns-5
 returns-5 c =
     let fourth = c .before .before in
-    let third = fourth .before .before in
-    let second = third .before .before in
-    let taken = second .before .before in
-    short-told (started taken .args .l) _
-    (short-converted _ _ (taken .long-fields .ensures) (not-zero taken) (formed second) (within third)
-    (sym (fourth .before .loses-bits .ensures) ∙ fourth .if4 .left)
+    let third = fourth .before in
+    let tested = third .before .before in
+    short-told (number tested) _
+    (short-converted _ _ (of-number tested) (not-zero tested) (formed (third .before)) (within third)
+    (sym (tested .loses-bits .ensures) ∙ fourth .if4 .left)
     ∙ ap IsShort (ap shortOf (sym (c .before .shorten .ensures)) ∙ sym (c .short-of .ensures)))
 
 pub long-to-short-spec : {M : Type 1} → statement M
@@ -111,10 +117,10 @@ long-to-short-spec =
     returns
     long-fields-requires
     malformed-long-requires
-    returns-2
     beyond-match-requires
-    returns-3
     loses-bits-requires
+    returns-2
+    returns-3
     returns-4
     shorten-requires
     short-of-requires
