@@ -74,19 +74,27 @@ fn running(s: State) {
     }
 }
 
+// Of the control words in image order.
+fn control_sum(s: State) -> u64
+    ensures { λ r. ⌜ r < 4294967291 ⌝ }
+{
+    let pcrs = s.pcr;
+    let k = s.control_words();
+    let scalars = image_write::scalars_of(s.level, k);
+    let added = image_write::added_of(k);
+    sum_on(sum_on(sum(&scalars), &pcrs), &added)
+}
+
 // Refusal, answers, checksums of registers, control words, page tables and memory, then level and registers of the
 // running level.
 pub(crate) fn show(told: Told, mem: &[u16], tables: &[u16]) {
     let s = told.state;
     let regs = s.regs;
-    let pcr = s.pcr;
-    let k = s.control;
-    let scalars = image_write::scalars_of(s.level, k);
     io::print_decimal(1, told.refusal);
     number(told.first);
     number(told.second);
     checksum(sum(&regs));
-    checksum(sum_on(sum(&scalars), &pcr));
+    checksum(control_sum(s));
     checksum(sum(tables));
     checksum(sum(mem));
     number(s.level as u64);

@@ -1,6 +1,6 @@
 -- What a test says that is passed: of answers, of sizes, of a state.
 -- Assumes nothing.
-use Rattle.isa.specs.Machine.{levelCount, largestMemory, pageWords, tableWords}
+use Rattle.isa.specs.Machine.{levelCount, largestMemory, pageWords, tableWords, controlOf}
 use Prim.Native.Nat.{ℕ, _%_, _<_, _≤_}
 use mathlib.Core.Path.{_≡_, refl}
 use mathlib.Core.Bool.{Bool, true, false, cond, not, _&&_}
@@ -61,7 +61,7 @@ level-of s m t e =
     l = ltb (s .level) 16
 
     k : Bool
-    k = controlInRange (s .control)
+    k = controlInRange (controlOf s)
 
     p : Bool
     p = allPcrBits (s .pcr)

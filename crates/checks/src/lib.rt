@@ -4,7 +4,8 @@ ghost use mathlib.Core.Bool.{true, _&&_};
 ghost use Prim.Native.Nat.{_*_, _<_};
 ghost use lib.Dec.{ltb};
 ghost use lib.ListN.{length};
-ghost use Rattle.isa.specs.Machine.{memorySize, sizesFit, interruptBits, pcrBits, pgsBits, controlInRange};
+ghost use Rattle.isa.specs.Machine.{memorySize, sizesFit, interruptBits, pcrBits, pgsBits, statusInRange};
+ghost use Rattle.isa.specs.Machine.{controlInRange};
 ghost use Rattle.isa.specs.Machine.{levelCount, registerWords, allPcrBits, flagsFit, inRange, stateWith};
 ghost use Rattle.checks.specs.Bits.{bitsOf};
 ghost use Rattle.isa.specs.Answers.{stateAnswer, deviceLevel, raised};
@@ -93,19 +94,29 @@ fn switches_fit(c: Control) -> bool
     false
 }
 
-// IIE and PGS.
-fn masks_fit(c: Control) -> bool
-    ensures { λ r. ⌜ r ≡ (interruptBits (c .iie) && pgsBits (c .pgs)) ⌝ }
+// The paging status: PGS, and whether it is held, 0 or 1.
+fn status_fits(c: Control) -> bool
+    ensures { λ r. ⌜ r ≡ statusInRange c ⌝ }
 {
-    if interrupt_bits(c.iie) {
-        return pgs_bits(c.pgs);
+    if pgs_bits(c.pgs) {
+        return c.held < 2;
     }
     false
 }
 
-// IID, IIE and PGS.
+// IIE and the paging status.
+fn masks_fit(c: Control) -> bool
+    ensures { λ r. ⌜ r ≡ (interruptBits (c .iie) && statusInRange c) ⌝ }
+{
+    if interrupt_bits(c.iie) {
+        return status_fits(c);
+    }
+    false
+}
+
+// IID, IIE and the paging status.
 fn registers_fit(c: Control) -> bool
-    ensures { λ r. ⌜ r ≡ (interruptBits (c .iid) && interruptBits (c .iie) && pgsBits (c .pgs)) ⌝ }
+    ensures { λ r. ⌜ r ≡ (interruptBits (c .iid) && interruptBits (c .iie) && statusInRange c) ⌝ }
 {
     if interrupt_bits(c.iid) {
         return masks_fit(c);
@@ -113,9 +124,10 @@ fn registers_fit(c: Control) -> bool
     false
 }
 
-// PVL, IID, IIE and PGS.
+// PVL, IID, IIE and the paging status.
 fn numbers_fit(c: Control) -> bool
-    ensures { λ r. ⌜ r ≡ (ltb (c .pvl) 16 && interruptBits (c .iid) && interruptBits (c .iie) && pgsBits (c .pgs)) ⌝ }
+    ensures { λ r. ⌜ r
+        ≡ (ltb (c .pvl) levelCount && interruptBits (c .iid) && interruptBits (c .iie) && statusInRange c) ⌝ }
 {
     if c.pvl < LEVELS {
         return registers_fit(c);
@@ -123,7 +135,7 @@ fn numbers_fit(c: Control) -> bool
     false
 }
 
-// The control words 1 to 9.
+// The control words 1 to 9 and 26.
 fn control_in_range(c: Control) -> bool
     ensures { λ r. ⌜ r ≡ controlInRange c ⌝ }
 {
@@ -206,7 +218,7 @@ fn parts_in_range<'a>(level: u16, k: Control, regs: &'a [u16], pcrs: &'a [u16]) 
 pub fn in_range(s: State) -> bool
     ensures { λ r. ⌜ r ≡ inRange s ⌝ }
 {
-    let k = s.control;
+    let k = s.control_words();
     parts_in_range(s.level, k, &s.regs, &s.pcr)
 }
 
@@ -237,7 +249,7 @@ pub fn parts_answer<'a>(
 pub fn state_answer(s: State, mem: &[u16], tables: &[u16]) -> Answer
     ensures { λ r. ⌜ r ≡ stateAnswer s (now (mem .entry)) (now (tables .entry)) ⌝ }
 {
-    let k = s.control;
+    let k = s.control_words();
     parts_answer(s.level, k, &s.regs, &s.pcr, mem, tables)
 }
 
@@ -260,6 +272,7 @@ pub fn raised(s: State, l: u16) -> State
     ensures { λ r. ⌜ r ≡ raised s l ⌝ }
 {
     let mut c = s.control;
+    let a = s.added;
     let p = s.pcr;
     let b = s.regs;
     c.pid = with_bit(l, 1, c.pid);
@@ -268,5 +281,6 @@ pub fn raised(s: State, l: u16) -> State
         level: s.level,
         control: c,
         pcr: p,
+        added: a,
     }
 }

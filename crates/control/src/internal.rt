@@ -3,6 +3,7 @@ ghost use mathlib.Core.Path.{_≡_};
 ghost use Prim.Native.Nat.{_<_};
 ghost use Rattle.isa.specs.System.{statusWord, internalWord, afterReading, read, withSts, written, maskableWord};
 ghost use Rattle.isa.specs.System.{withMaskable, bitsCleared, bitsSet, withPid, withPie, withInternal};
+ghost use Rattle.isa.specs.System.{withPagingStatus};
 ghost use Rattle.isa.specs.Machine.{levelCount, withControl};
 use isa::constant::ALL_ONES;
 use isa::constant::LEVELS;
@@ -43,13 +44,13 @@ fn internal_word(level: u16, c: Core, r: Readable) -> u16
     }
 }
 
-// TRA IIC clears IID.
+// TRA IIC clears IID, TRA PGS releases PGS.
 fn after_reading(k: Control, r: Readable) -> Control
     ensures { λ t. ⌜ t ≡ afterReading k r ⌝ }
 {
     match r {
         Readable::Status => k,
-        Readable::Pgs => k,
+        Readable::Pgs => released(k),
         Readable::Pvl => k,
         Readable::Iic => without_interrupts(k),
         Readable::Pid => k,
@@ -58,8 +59,17 @@ fn after_reading(k: Control, r: Readable) -> Control
     }
 }
 
+// PGS keeps its value, and the next 2 or 3 sets it.
+fn released(k: Control) -> Control
+    ensures { λ t. ⌜ t ≡ withPagingStatus k (k .pgs) 0 ⌝ }
+{
+    let mut t = k;
+    t.held = 0;
+    t
+}
+
 fn without_interrupts(k: Control) -> Control
-    ensures { λ t. ⌜ t ≡ withInternal k 0 (k .iie) (k .pgs) ⌝ }
+    ensures { λ t. ⌜ t ≡ withInternal k 0 (k .iie) ⌝ }
 {
     let mut t = k;
     t.iid = 0;
@@ -85,7 +95,7 @@ fn with_sts(c: Core, w: u16) -> Core
 }
 
 fn with_iie(c: Core, w: u16) -> Core
-    ensures { λ d. ⌜ d ≡ withControl c (withInternal (c .control) (c .control .iid) w (c .control .pgs)) ⌝ }
+    ensures { λ d. ⌜ d ≡ withControl c (withInternal (c .control) (c .control .iid) w) ⌝ }
 {
     let mut k = c.control;
     k.iie = w;

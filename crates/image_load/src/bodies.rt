@@ -6,7 +6,7 @@ ghost use Prim.Native.Nat.{_+_, _≤_};
 ghost use lib.ListN.{length, getD, take, drop};
 ghost use lib.Seq.{paste};
 ghost use lib.Dec.{eqb};
-ghost use Rattle.isa.specs.Machine.{registerWords, stateWords, controlCount, stateOf};
+ghost use Rattle.isa.specs.Machine.{registerWords, stateWords, controlCount, controlOf, stateOf};
 ghost use Rattle.isa.specs.Images.{kindRegisters, kindControl, contents, bodies, placed, loadedWords, loadedState};
 ghost use Rattle.image_load.specs.Placing.{Placeable};
 use image_directory::entry::Span;
@@ -15,6 +15,7 @@ use image_directory::entry::entry_count;
 use image_directory::entry::wide;
 use isa::constant::CONTROL_COUNT;
 use isa::constant::ENTRY_SIZE;
+use isa::constant::FIRST_ADDED;
 use isa::constant::FIRST_PCR;
 use isa::constant::KIND_CONTROL;
 use isa::constant::KIND_REGISTERS;
@@ -73,10 +74,10 @@ pub type RegisterWords = [u16; REGISTER_WORDS];
 
 pub type ControlWords = [u16; CONTROL_COUNT];
 
-// Control words 1 to 9, of all control words in image order.
+// Control words 1 to 9 and 26, of all control words in image order.
 pub fn control_of(words: &[u16]) -> Control
     requires { ⌜ length (now words) ≡ controlCount ⌝ }
-    ensures { λ k. ⌜ k ≡ stateOf [] (now (words .entry)) .control ⌝ }
+    ensures { λ k. ⌜ k ≡ controlOf (stateOf [] (now (words .entry))) ⌝ }
 {
     Control {
         interrupts: words[1],
@@ -88,6 +89,7 @@ pub fn control_of(words: &[u16]) -> Control
         iid: words[7],
         iie: words[8],
         pgs: words[9],
+        held: words[FIRST_ADDED],
     }
 }
 
@@ -109,15 +111,10 @@ pub fn state_of(regs: RegisterWords, words: ControlWords) -> State
 {
     let k = control_of(&words);
     let pcrs = pcrs_of(&words);
-    State {
-        regs: regs,
-        level: words[0],
-        control: k,
-        pcr: pcrs,
-    }
+    State::with(words[0], k, regs, pcrs)
 }
 
-// The state of 154 words in image order: the registers, then the control words.
+// The state of 155 words in image order: the registers, then the control words.
 pub fn state_in(words: &[u16]) -> State
     requires { ⌜ length (now words) ≡ stateWords ⌝ }
     ensures { λ s. ⌜ s ≡ stateOf (take registerWords (now (words .entry))) (drop registerWords (now (words .entry))) ⌝ }

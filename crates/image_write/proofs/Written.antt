@@ -1,6 +1,6 @@
 -- The image's words one after the other, and what write answers.
 -- Assumes nothing.
-use Rattle.isa.specs.Machine.{stateWords, largestMemory, levelCount, registerWords, tableWords}
+use Rattle.isa.specs.Machine.{stateWords, largestMemory, tableWords}
 use Prim.Native.Nat.{ℕ, _+_, _≤_, _<_}
 use mathlib.Core.Path.{_≡_, refl, sym, ap, _∙_}
 use mathlib.Core.Bool.{Bool, true, false, cond}
@@ -21,7 +21,7 @@ use Rattle.isa.specs.declared.answer.Answer.the-variants.{Done, Refused}
 use Rattle.checks.specs.Answers.{firstOf}
 use Rattle.image_write.specs.Writing.{roomAnswer}
 use Rattle.checks.proofs.Passed.{refused-not-done, sizes-of, memory-most, tables-all}
-use Rattle.image_write.proofs.Joined.{joined, paste-join}
+use Rattle.image_write.proofs.Joined.{joined}
 
 -- contents and memory
 pub memory-put : (w m o c d e : List ℕ) (n : ℕ) → length w ≡ 21 → length m ≡ n → c ≡ w → d ≡ paste o 0 c 21
@@ -32,26 +32,30 @@ memory-put w m o c d e n hw hm hc hd he =
     let f : d ≡ w ++ drop 21 o = hd ∙ ap (λ (x : List ℕ). paste o 0 x 21) hc ∙ joined [] w o o 0 21 refl hw refl in
     he ∙ joined w m o d 21 n hw hm f ∙ ap (λ (x : ℕ). (w ++ m) ++ drop x o) q
 
+-- where the page tables stand among an image's words beside memory
+abbrev tablePlace : ℕ
+tablePlace = contentsSize + stateWords
+
 -- the image
 pub image-put : (s : State) (m t o d e f : List ℕ) (n : ℕ) → length m ≡ n
     → length (s .regs ++ controlWords s) ≡ stateWords
     → length t ≡ tableWords
     → d ≡ (contentsWords (length m) ++ m) ++ drop (n + contentsSize) o
     → e ≡ paste d (n + contentsSize) (s .regs ++ controlWords s) stateWords
-    → f ≡ paste e (n + 175) t 256
+    → f ≡ paste e (n + tablePlace) t tableWords
     → f ≡ imageOf s m t ++ drop (n + besideMemory) o
 unfolding imageOf
 image-put s m t o d e f n hm hw ht hd he hf =
     let c : List ℕ = contentsWords (length m) in
     let w : List ℕ = s .regs ++ controlWords s in
     let a : length (c ++ m) ≡ n + contentsSize = length-append c m ∙ omega (arith, hm) in
-    let b : length ((c ++ m) ++ w) ≡ n + 175 = length-append (c ++ m) w ∙ omega (arith, a, hw) in
-    let p : n + contentsSize + stateWords ≡ n + 175 = omega arith in
-    let q : n + 175 + 256 ≡ n + besideMemory = omega arith in
-    let g : e ≡ ((c ++ m) ++ w) ++ drop (n + 175) o =
+    let b : length ((c ++ m) ++ w) ≡ n + tablePlace = length-append (c ++ m) w ∙ omega (arith, a, hw) in
+    let p : n + contentsSize + stateWords ≡ n + tablePlace = omega arith in
+    let q : n + tablePlace + tableWords ≡ n + besideMemory = omega arith in
+    let g : e ≡ ((c ++ m) ++ w) ++ drop (n + tablePlace) o =
     he ∙ joined (c ++ m) w o d (n + contentsSize) stateWords a hw hd ∙ ap (λ (x : ℕ). ((c ++ m) ++ w) ++ drop x o) p in
     hf
-    ∙ joined ((c ++ m) ++ w) t o e (n + 175) 256 b ht g
+    ∙ joined ((c ++ m) ++ w) t o e (n + tablePlace) tableWords b ht g
     ∙ ap (λ (x : ℕ). (((c ++ m) ++ w) ++ t) ++ drop x o) q
     ∙ ap (λ (x : List ℕ). x ++ drop (n + besideMemory) o)
     (append-assoc (c ++ m) w t ∙ append-assoc c m (w ++ t)

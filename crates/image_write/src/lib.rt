@@ -1,11 +1,11 @@
 // The machine written as an image: contents, then memory, registers, control words and page tables.
 ghost use Rattle.isa.specs.Machine.{largestMemory, levelCount, controlCount, stateWords, tableWords, stateWith};
 ghost use mathlib.Core.Path.{_≡_};
-ghost use mathlib.Core.List.{_∷_, [], _++_};
+ghost use mathlib.Core.List.{[], _++_};
 ghost use Prim.Native.Nat.{_+_, _≤_};
 ghost use lib.ListN.{length, drop};
 ghost use lib.Seq.{paste};
-ghost use Rattle.isa.specs.Machine.{controlWords};
+ghost use Rattle.isa.specs.Machine.{scalarWords, addedWords, controlWords};
 ghost use Rattle.isa.specs.Images.{contentsSize, contentsWords, imageOf, imageSize};
 ghost use Rattle.isa.specs.Answers.{stateAnswer, writeAnswer, writtenOutput};
 ghost use Rattle.checks.specs.Answers.{firstOf};
@@ -14,9 +14,11 @@ use checks::answers::first;
 use checks::state_answer;
 use isa::answer::Answer;
 use isa::answer::Refusal;
+use isa::constant::ADDED_COUNT;
 use isa::constant::BESIDE_MEMORY;
 use isa::constant::CONTENTS_SIZE;
 use isa::constant::CONTROL_COUNT;
+use isa::constant::FIRST_ADDED;
 use isa::constant::FIRST_PCR;
 use isa::constant::KIND_CONTROL;
 use isa::constant::KIND_MEMORY;
@@ -80,10 +82,10 @@ fn contents(n: usize) -> [u16; CONTENTS_SIZE]
 }
 
 // The control words 0 to 9.
-pub type Scalars = [u16; FIRST_PCR];
+pub type FirstWords = [u16; FIRST_PCR];
 
-pub fn scalars_of(level: u16, k: Control) -> Scalars
-    ensures { λ r. ⌜ r ≡ controlWords (stateWith level k [] []) ⌝ }
+pub fn scalars_of(level: u16, k: Control) -> FirstWords
+    ensures { λ r. ⌜ r ≡ scalarWords level k ⌝ }
 {
     [
         level,
@@ -97,6 +99,15 @@ pub fn scalars_of(level: u16, k: Control) -> Scalars
         k.iie,
         k.pgs,
     ]
+}
+
+// The control words behind the PCRs.
+pub type AddedWords = [u16; ADDED_COUNT];
+
+pub fn added_of(k: Control) -> AddedWords
+    ensures { λ r. ⌜ r ≡ addedWords k ⌝ }
+{
+    [k.held]
 }
 
 // Contents and memory, at the front of the output.
@@ -121,8 +132,10 @@ pub fn put_control(level: u16, k: Control, pcrs: &[u16], out: &mut [u16], at: us
         ≡ paste (now (out .entry)) at (controlWords (stateWith level k [] (now (pcrs .entry)))) controlCount ⌝ }
 {
     let words = scalars_of(level, k);
+    let added = added_of(k);
     copy(out, at, &words, 0, FIRST_PCR);
     copy(out, at + FIRST_PCR, pcrs, 0, LEVEL_COUNT);
+    copy(out, at + FIRST_ADDED, &added, 0, ADDED_COUNT);
 }
 
 // Registers and control words, to the words of the output at `at`.
@@ -131,7 +144,7 @@ pub fn put_state(s: State, out: &mut [u16], at: usize)
     ensures { λ _. ⌜ now (out .exit) ≡ paste (now (out .entry)) at (s .regs ++ controlWords s) stateWords ⌝ }
 {
     let regs = s.regs;
-    let k = s.control;
+    let k = s.control_words();
     let pcrs = s.pcr;
     copy(out, at, &regs, 0, REGISTER_WORDS);
     put_control(s.level, k, &pcrs, out, at + REGISTER_WORDS);

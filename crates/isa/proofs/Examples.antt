@@ -4,17 +4,18 @@ use Prim.Native.Nat.{ℕ, suc, _+_}
 use mathlib.Core.Path.{_≡_, refl}
 use mathlib.Core.Bool.{Bool, true, false, cond}
 use mathlib.Core.List.{List, [], _∷_, _++_}
-use lib.ListN.{replicate}
-use Rattle.isa.specs.Machine.{fileAt, putFile}
+use lib.ListN.{getD, replicate}
+use Rattle.isa.specs.Machine.{fileAt, putFile, stateWith}
 use Rattle.isa.specs.Flags.{adder, withOverflow, withSum, productOverflow, divisionFails, leftOnce, rightOnce}
 use Rattle.isa.specs.Decode.{byCode, byNumber, decode, traOf, trrOf, maskedOf, switchOf, srbOf, lrbOf, shiftOf}
 use Rattle.isa.specs.Address.{firstAddress}
+use Rattle.isa.specs.System.{withPagingStatus}
 use Rattle.isa.specs.Instructions.{divided}
 use Rattle.isa.specs.Pages.{entryOf, withinMemory, judged, inWindow, translate, marked, lowered}
 use Rattle.isa.specs.Step.{Turn, step, interrupted, faulted, finished, operandsTested, operands, indirectTested}
 use Rattle.isa.specs.Step.{userStage, examined, deposited, instructionStage, fetched, stepIn, putOther}
 use Rattle.isa.specs.Step.{blockStored, blockLoaded, farStage, settled, changeDue, levelChanged}
-use Rattle.isa.specs.Cases.{quiet, given, stated}
+use Rattle.isa.specs.Cases.{quiet, memoryOf, tablesOf, given, stated}
 use Rattle.isa.specs.Isolation.{permits, permitsWriting}
 use Rattle.isa.specs.declared.machine.State.{State}
 use Rattle.isa.specs.declared.access.Rights.{Rights}
@@ -60,12 +61,8 @@ permits-rings = refl
 -- table 1. Every entry of both tables permits all of physical page 0, so that the marks alone tell which entries were
 -- used. The word at displacement 1 is 014000.
 abbrev start : ℕ → State
-start sts = record {
-  regs = sts ∷ 0 ∷ 0 ∷ 0o4000 ∷ 0 ∷ 0 ∷ 0 ∷ 0o10000 ∷ replicate 120 0;
-  level = 0;
-  control = quiet 1;
-  pcr = 0o200 ∷ replicate 15 0;
-}
+start sts =
+    stateWith 0 (quiet 1) (sts ∷ 0 ∷ 0 ∷ 0o4000 ∷ 0 ∷ 0 ∷ 0 ∷ 0o10000 ∷ replicate 120 0) (0o200 ∷ replicate 15 0)
 
 abbrev after : ℕ → ℕ → Turn
 after sts w = step (start sts) (w ∷ 0o014000 ∷ replicate 1022 0) (replicate 128 0o160000 ++ replicate 128 0)
@@ -112,10 +109,39 @@ accesses =
     ∷ (used 0 0o142200, 0 ∷ 2 ∷ [])
     ∷ []
 
-pub access-tables : given accesses ≡ stated accesses
+-- ---- which fault PGS keeps (document 02, card 3)
+
+-- One step of the word w on that ring, with paging on, by the entry e of the page that it is fetched from; PGS is
+-- 000377 before it, and h is whether it is held. Seen are the interrupt, PGS, whether it is held, and A.
+abbrev kept : ℕ → ℕ → ℕ → ℕ → List ℕ
+kept ring h w e =
+    let k = withPagingStatus (quiet 1) 0o377 h in
+    let r = step (stateWith 0 k (replicate 128 0) (ring ∷ replicate 15 0)) (memoryOf w 0) (tablesOf e 0) in
+    r .gave ∷ r .state .control .pgs ∷ r .state .added .held ∷ getD (r .state .regs) 5 0 ∷ []
+
+abbrev firstFaults : List (List ℕ × List ℕ)
+firstFaults =
+    -- no permit at all, 3; no permit to fetch, 2; an entry of ring 2, 2; a page past the memory, 9
+    (kept 1 0 0 0, 3 ∷ 0o140000 ∷ 1 ∷ 0 ∷ [])
+    ∷ (kept 1 1 0 0, 3 ∷ 0o377 ∷ 1 ∷ 0 ∷ [])
+    ∷ (kept 1 0 0 0o041000, 2 ∷ 0o140000 ∷ 1 ∷ 0 ∷ [])
+    ∷ (kept 1 1 0 0o041000, 2 ∷ 0o377 ∷ 1 ∷ 0 ∷ [])
+    ∷ (kept 1 0 0 0o162000, 2 ∷ 0o100000 ∷ 1 ∷ 0 ∷ [])
+    ∷ (kept 1 1 0 0o162000, 2 ∷ 0o377 ∷ 1 ∷ 0 ∷ [])
+    ∷ (kept 1 0 0 0o161777, 9 ∷ 0o377 ∷ 0 ∷ 0 ∷ [])
+    ∷ (kept 1 1 0 0o161777, 9 ∷ 0o377 ∷ 1 ∷ 0 ∷ [])
+    -- TRA PGS, and the same on ring 1, 6; TRA IIC
+    ∷ (kept 2 1 0o150003 0o162000, 0 ∷ 0o377 ∷ 0 ∷ 0o377 ∷ [])
+    ∷ (kept 2 0 0o150003 0o162000, 0 ∷ 0o377 ∷ 0 ∷ 0o377 ∷ [])
+    ∷ (kept 1 1 0o150003 0o161000, 6 ∷ 0o377 ∷ 1 ∷ 0 ∷ [])
+    ∷ (kept 2 1 0o150005 0o162000, 0 ∷ 0o377 ∷ 1 ∷ 0 ∷ [])
+    ∷ []
+
+-- both tables
+pub access-tables : (given accesses ≡ stated accesses) × (given firstFaults ≡ stated firstFaults)
 unfolding fileAt putFile adder withOverflow withSum productOverflow divisionFails leftOnce rightOnce byCode byNumber
     decode traOf
     trrOf maskedOf switchOf srbOf lrbOf shiftOf firstAddress divided withinMemory judged inWindow translate marked
     lowered step interrupted faulted finished operandsTested operands indirectTested userStage examined deposited
     instructionStage fetched stepIn putOther blockStored blockLoaded farStage settled changeDue levelChanged
-access-tables = refl
+access-tables = (refl, refl)

@@ -11,5 +11,6 @@ pub mod Marks
 pub mod Runs
 pub mod Examples
 pub mod Packing
+pub mod ControlWords
 pub mod Bits
 pub mod Refusals

@@ -1,6 +1,6 @@
 -- The running level's words in the state: taken out, put back, and both in a row.
 -- Assumes nothing.
-use Rattle.isa.specs.Machine.{levelCount, registerWords}
+use Rattle.isa.specs.Machine.{levelCount, registerWords, controlOf, stateWith}
 use Prim.Native.Nat.{ℕ, suc, _+_, _*_, _<_}
 use mathlib.Core.Path.{_≡_, refl, sym, ap, _∙_}
 use mathlib.Core.List.{List, [], _∷_, _++_, append-assoc}
@@ -14,6 +14,7 @@ use Rattle.isa.specs.Machine.{number, reg, withReg, fileBy, fileWords, f
 use Rattle.isa.specs.declared.machine.File.{File}
 use Rattle.isa.specs.declared.machine.Register.{Register}
 use Rattle.isa.specs.declared.machine.Register.the-variants.{Sts, D, P, B, L, A, T, X}
+use Rattle.isa.specs.declared.machine.Control.{Control}
 use Rattle.isa.specs.declared.machine.Core.{Core}
 use Rattle.isa.specs.declared.machine.State.{State}
 
@@ -164,10 +165,14 @@ module _ (l : ℕ) (c : Core) (b p : List ℕ) (h : l < levelCount) (e : length 
   pack-pack d =
       let r = put-put b l h e (c .file) (d .file) in
       let q = set-set p l (c .pcr) (d .pcr) in
-      λ i. record { regs = r i; level = l; control = d .control; pcr = q i }
+      λ i. stateWith l (d .control) (r i) (q i)
 
 pub pack-open : (s : State) → s .level < levelCount → length (s .regs) ≡ registerWords → withCore s (coreOf s) ≡ s
 pack-open s h e =
     let r = put-take (s .regs) (s .level) h e in
     let q = set-getD (s .pcr) (s .level) 0 in
-    λ i. record { regs = r i; level = s .level; control = s .control; pcr = q i }
+    λ i. stateWith (s .level) (controlOf s) (r i) (q i)
+
+-- a state of its own parts is the state, the control words by whatever is equal to them
+pub parts-state : (s : State) {k : Control} → k ≡ controlOf s → stateWith (s .level) k (s .regs) (s .pcr) ≡ s
+parts-state s e = λ i. stateWith (s .level) (e i) (s .regs) (s .pcr)

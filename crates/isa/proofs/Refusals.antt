@@ -44,4 +44,6 @@ refusal-again Precision = refl
 pub refusal-above : (x : Refusal) → eqb (refusalNumber x) 0 ≡ false
 refusal-above x =
     ne-eqb (refusalNumber x) 0
-    (λ z. let e : refusalNumber x ≡ 1 = ap refusalNumber (sym (refusal-again x) ∙ ap refusalAt z) in omega (arith, z, e))
+    (λ z.
+    let e : refusalNumber x ≡ 1 = ap refusalNumber (sym (refusal-again x) ∙ ap refusalAt z) in
+    omega (arith, z, e))

@@ -4,7 +4,7 @@ use mathlib.Core.Bool.{Bool, cond, not, _&&_, _||_}
 use mathlib.Core.List.{List, [], _∷_, _++_}
 use lib.ListN.{take, drop, length}
 use lib.Dec.{ltb, leb, eqb}
-use Rattle.isa.specs.Machine.{tableWords, withBit, inRange, sizesFit}
+use Rattle.isa.specs.Machine.{tableWords, withBit, controlOf, inRange, sizesFit, stateWith}
 use Rattle.isa.specs.System.{withPid}
 use Rattle.isa.specs.Step.{step, Turn}
 use Rattle.isa.specs.Run.{Run, runFrom}
@@ -126,12 +126,7 @@ deviceLevel l = leb 10 l && leb l 13 || eqb l 15
 -- "Raise, by a device, sets the level's PID bit: 2; 3". Ruling 28: also of a stopped machine. Memory and tables are
 -- looked at for refusal 1 alone. The bit is set for a level that was not refused, so PID stays a word.
 abbrev pub raised : State → ℕ → State
-raised s l = record {
-  regs = s .regs;
-  level = s .level;
-  control = withPid (s .control) (withBit l 1 (s .control .pid));
-  pcr = s .pcr;
-}
+raised s l = stateWith (s .level) (withPid (controlOf s) (withBit l 1 (s .control .pid))) (s .regs) (s .pcr)
 
 abbrev pub levelAnswer : ℕ → Answer → Answer
 levelAnswer l Done = cond (deviceLevel l) Done (Refused RaiseLevel)

@@ -4,7 +4,7 @@ use Prim.Native.Nat.{ℕ, _+_}
 use mathlib.Core.Path.{_≡_, refl}
 use mathlib.Core.List.{List, [], _∷_, _++_}
 use lib.ListN.{getD, replicate}
-use Rattle.isa.specs.Machine.{tableWords, fileAt, putFile}
+use Rattle.isa.specs.Machine.{tableWords, fileAt, putFile, stateWith}
 use Rattle.isa.specs.Flags.{adder, withOverflow, withSum, productOverflow, divisionFails, leftOnce, rightOnce}
 use Rattle.isa.specs.Decode.{byCode, byNumber, decode, traOf, trrOf, maskedOf, switchOf, srbOf, lrbOf, shiftOf}
 use Rattle.isa.specs.Address.{firstAddress}
@@ -30,16 +30,13 @@ quiet paging = record {
   iid = 0;
   iie = 0;
   pgs = 0;
+  held = 0;
 }
 
 -- a machine on level 0, P 0, with the registers D, B, A and T and the paging switch and PCR of the level
 abbrev pub start : ℕ → ℕ → ℕ → ℕ → ℕ → ℕ → State
-start d b a t paging pcr = record {
-  regs = 0 ∷ d ∷ 0 ∷ b ∷ 0 ∷ a ∷ t ∷ 0 ∷ replicate 120 0;
-  level = 0;
-  control = quiet paging;
-  pcr = pcr ∷ replicate 15 0;
-}
+start d b a t paging pcr =
+    stateWith 0 (quiet paging) (0 ∷ d ∷ 0 ∷ b ∷ 0 ∷ a ∷ t ∷ 0 ∷ replicate 120 0) (pcr ∷ replicate 15 0)
 
 -- a page of memory that begins with these two words
 abbrev pub memoryOf : ℕ → ℕ → List ℕ
@@ -76,12 +73,7 @@ cases =
     (
       flagsAndA
           (step
-          (record {
-            regs = 0 ∷ 0 ∷ 0o100 ∷ replicate 125 0;
-            level = 0;
-            control = quiet 0;
-            pcr = replicate 16 0;
-          })
+          (stateWith 0 (quiet 0) (0 ∷ 0 ∷ 0o100 ∷ replicate 125 0) (replicate 16 0))
           (replicate 0o76 0 ++ (0o001234 ∷ 0 ∷ 0o044376 ∷ replicate 959 0))
           (replicate tableWords 0)),
       0 ∷ 0o001234 ∷ [],

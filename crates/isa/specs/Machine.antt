@@ -7,13 +7,15 @@
 use Prim.Native.Nat.{ℕ, zero, suc, _+_, _*_, _/_, _%_, _^_, _<_}
 use mathlib.Core.Path.{_≡_}
 use mathlib.Core.Bool.{Bool, true, cond, _&&_}
-use mathlib.Core.List.{List, [], _∷_}
-use lib.ListN.{getD, set, drop, length}
+use mathlib.Core.List.{List, [], _∷_, _++_}
+use lib.ListN.{getD, set, take, drop, length}
 use lib.Seq.{paste}
 use lib.Dec.{ltb, leb, eqb}
 use Rattle.isa.specs.declared.machine.Register.{Register}
 use Rattle.isa.specs.declared.machine.Register.the-variants.{Sts, D, P, B, L, A, T, X}
 use Rattle.isa.specs.declared.machine.File.{File}
+use Rattle.isa.specs.declared.machine.Scalars.{Scalars}
+use Rattle.isa.specs.declared.machine.Added.{Added}
 use Rattle.isa.specs.declared.machine.Control.{Control}
 use Rattle.isa.specs.declared.machine.Core.{Core}
 use Rattle.isa.specs.declared.machine.State.{State}
@@ -42,12 +44,19 @@ registerWords = 128
 abbrev pub statusRange : ℕ
 statusRange = 256
 
--- "10 to 25 PCR of levels 0 to 15": the first PCR among the control words, and how many control words there are
+-- "10 to 25 PCR of levels 0 to 15": the first PCR among the control words. Document 02 adds words behind the PCRs; its
+-- card 3: "Whether it is held is control word 26". The first of these, how many they are, and all control words: 27
 abbrev pub firstPcr : ℕ
 firstPcr = 10
 
+abbrev pub firstAdded : ℕ
+firstAdded = 26
+
+abbrev pub addedCount : ℕ
+addedCount = 1
+
 abbrev pub controlCount : ℕ
-controlCount = 26
+controlCount = firstAdded + addedCount
 
 -- registers and control words together: a state's words
 abbrev pub stateWords : ℕ
@@ -195,24 +204,61 @@ fileAt b l = fileBy (λ r. getD b (l * fileSize + number r) 0)
 unfoldable pub putFile : List ℕ → ℕ → File → List ℕ
 putFile b l f = paste b (l * fileSize) (fileWords f) fileSize
 
+-- The control words that instructions work on, 1 to 9 and those behind the PCRs: of a state, and back into its parts.
+abbrev pub controlOf : State → Control
+controlOf s = record {
+  interrupts = s .control .interrupts;
+  held = s .added .held;
+  paging = s .control .paging;
+  stopped = s .control .stopped;
+  pid = s .control .pid;
+  pie = s .control .pie;
+  pvl = s .control .pvl;
+  iid = s .control .iid;
+  iie = s .control .iie;
+  pgs = s .control .pgs;
+}
+
+abbrev pub scalarsOf : Control → Scalars
+scalarsOf k = record {
+  interrupts = k .interrupts;
+  paging = k .paging;
+  stopped = k .stopped;
+  pid = k .pid;
+  pie = k .pie;
+  pvl = k .pvl;
+  iid = k .iid;
+  iie = k .iie;
+  pgs = k .pgs;
+}
+
+abbrev pub addedOf : Control → Added
+addedOf k = record { held = k .held }
+
 -- "Control words, in image order: 0 level, 1 interrupts on, 2 paging on, 3 stopped .. 4 PID (pending levels), 5 PIE
 -- (enabled levels), 6 PVL (previous level), 7 IID (internal interrupts detected), 8 IIE (enabled), 9 PGS (paging
--- status), 10 to 25 PCR of levels 0 to 15."
-abbrev pub controlWords : State → List ℕ
-controlWords s =
-    s .level
-    ∷ s .control .interrupts
-    ∷ s .control .paging
-    ∷ s .control .stopped
-    ∷ s .control .pid
-    ∷ s .control .pie
-    ∷ s .control .pvl
-    ∷ s .control .iid
-    ∷ s .control .iie
-    ∷ s .control .pgs
-    ∷ s .pcr
+-- status), 10 to 25 PCR of levels 0 to 15."; behind them those that document 02 adds: 26, whether PGS is held
+abbrev pub scalarWords : ℕ → Control → List ℕ
+scalarWords l k =
+    l
+    ∷ k .interrupts
+    ∷ k .paging
+    ∷ k .stopped
+    ∷ k .pid
+    ∷ k .pie
+    ∷ k .pvl
+    ∷ k .iid
+    ∷ k .iie
+    ∷ k .pgs
+    ∷ []
 
--- the state of 128 registers and 26 control words in image order; a list of 26 has each that is taken
+abbrev pub addedWords : Control → List ℕ
+addedWords k = k .held ∷ []
+
+abbrev pub controlWords : State → List ℕ
+controlWords s = scalarWords (s .level) (controlOf s) ++ (s .pcr ++ addedWords (controlOf s))
+
+-- the state of 128 registers and 27 control words in image order; a list of 27 has each that is taken
 abbrev pub stateOf : List ℕ → List ℕ → State
 stateOf rs cs = record {
   regs = rs;
@@ -228,7 +274,8 @@ stateOf rs cs = record {
     iie = getD cs 8 0;
     pgs = getD cs 9 0;
   };
-  pcr = drop firstPcr cs;
+  pcr = take levelCount (drop firstPcr cs);
+  added = record { held = getD cs firstAdded 0 };
 }
 
 -- "In a file STS is 0 to 255": of the levels below l
@@ -252,19 +299,24 @@ allPcrBits (w ∷ ws) = pcrBits w && allPcrBits ws
 abbrev pub pgsBits : ℕ → Bool
 pgsBits w = eqb (w / 256 % 64) 0
 
--- the scalar control words in range: "1 to 3 are 0 or 1", "Level and PVL are 0 to 15"; "bits not used are 0"
+-- .. and document 02, card 3: whether it is held "is control word 26 (0 or 1)"; ruling 43: whatever PGS is
+abbrev pub statusInRange : Control → Bool
+statusInRange c = pgsBits (c .pgs) && ltb (c .held) 2
+
+-- the control words but level and PCRs in range: "1 to 3 are 0 or 1", "Level and PVL are 0 to 15"; "bits not used are
+-- 0"
 abbrev pub controlInRange : Control → Bool
 controlInRange c =
     ltb (c .interrupts) 2 && ltb (c .paging) 2 && ltb (c .stopped) 2 && ltb (c .pvl) levelCount
     && interruptBits (c .iid)
     && interruptBits (c .iie)
-    && pgsBits (c .pgs)
+    && statusInRange c
 
 -- a state in "the ranges above"; ruling 29: every value of PID, PIE, page tables, memory and registers other than STS
 -- is in range
 unfoldable pub inRange : State → Bool
 inRange s =
-    ltb (s .level) levelCount && controlInRange (s .control) && allPcrBits (s .pcr) && flagsFit levelCount (s .regs)
+    ltb (s .level) levelCount && controlInRange (controlOf s) && allPcrBits (s .pcr) && flagsFit levelCount (s .regs)
 
 -- "bits not used are 0, and TRR drops them": what is left of a word for IIE, and for a PCR
 abbrev pub interruptMask : ℕ → ℕ
@@ -301,18 +353,18 @@ pub record Typed (s : State) : Type 0 where
   pub regs-words : Words (s .regs)
   pub control-words : Words (controlWords s)
 
--- A state of its parts: the level l, the control words k 1 to 9, the registers b and the PCRs p of all levels.
+-- A state of its parts: the level l, the control words k 1 to 9 and 26, the registers b and the PCRs p of all levels.
 abbrev pub stateWith : ℕ → Control → List ℕ → List ℕ → State
-stateWith l k b p = record { regs = b; level = l; control = k; pcr = p }
+stateWith l k b p = record { regs = b; level = l; control = scalarsOf k; pcr = p; added = addedOf k }
 
 -- The parts that the engine keeps apart: what the running level works on (a level below 16 has its PCR) ..
 abbrev pub coreOf : State → Core
-coreOf s = record { file = fileAt (s .regs) (s .level); pcr = getD (s .pcr) (s .level) 0; control = s .control }
+coreOf s = record { file = fileAt (s .regs) (s .level); pcr = getD (s .pcr) (s .level) 0; control = controlOf s }
 
 -- .. and their one packing: the state at level l whose running level's words are c, and whose other words are those of
 -- b (registers) and p (PCRs)
 abbrev pub pack : ℕ → Core → List ℕ → List ℕ → State
-pack l c b p = record { regs = putFile b l (c .file); level = l; control = c .control; pcr = set p l (c .pcr) }
+pack l c b p = stateWith l (c .control) (putFile b l (c .file)) (set p l (c .pcr))
 
 abbrev pub withCore : State → Core → State
 withCore s c = pack (s .level) c (s .regs) (s .pcr)

@@ -146,6 +146,21 @@ pgsAfter old (Protection g) = g
 pgsAfter old (PageFault g) = g
 pgsAfter old OutOfRange = old
 
+-- "PGS shall keep the first fault" (document 02, card 3): PGS after a fault of status g, by whether the old one is held
+abbrev pub firstStatus : ℕ → ℕ → ℕ → ℕ
+firstStatus held old g = cond (eqb held 1) old g
+
+-- "Whether it is held is control word 26": from the first 2 or 3 on; ruling 41: 9 touches neither
+abbrev pub heldAfter : ℕ → Translation → ℕ
+heldAfter held NoAccess = held
+heldAfter held (Load p) = held
+heldAfter held (Store p) = held
+heldAfter held (LoadTable i) = held
+heldAfter held (StoreTable i) = held
+heldAfter held (Protection g) = 1
+heldAfter held (PageFault g) = 1
+heldAfter held OutOfRange = held
+
 abbrev pub passes : Translation → Bool
 passes x = eqb (faultOf x) 0
 

@@ -9,14 +9,14 @@ use lib.Bits.{bitAnd}
 use Rattle.isa.specs.Machine.{wordRange, levelCount, fileSize, statusRange, internalLevel, interruptMon}
 use Rattle.isa.specs.Machine.{interruptIllegal, interruptError, interruptPrivileged, interruptIox, bit, withBit}
 use Rattle.isa.specs.Machine.{number, reg, withReg, next, nextCore, coreOf, withCore, withFile, withControl}
-use Rattle.isa.specs.Machine.{ringOf, pcrMask}
+use Rattle.isa.specs.Machine.{controlOf, stateWith, ringOf, pcrMask}
 use Rattle.isa.specs.Flags.{bitsOf}
 use Rattle.isa.specs.Decode.{decode, fourOf}
 use Rattle.isa.specs.Address.{sum, access}
 use Rattle.isa.specs.Instructions.{indirectRequest, request, complete, operand, Completed}
-use Rattle.isa.specs.System.{highestIn, withLevels, withPid, withInternal, controlled}
+use Rattle.isa.specs.System.{highestIn, withLevels, withPid, withInternal, withPagingStatus, controlled}
 use Rattle.isa.specs.Pages.{slotOf, entryAt, translate, marked, testAll, Tested, faultOf, pgsAfter, passes}
-use Rattle.isa.specs.Pages.{wordAt, wordsAt, storeAll, rightsOf, lowered}
+use Rattle.isa.specs.Pages.{firstStatus, heldAfter, wordAt, wordsAt, storeAll, rightsOf, lowered}
 use Rattle.isa.specs.declared.machine.Control.{Control}
 use Rattle.isa.specs.declared.machine.Core.{Core}
 use Rattle.isa.specs.declared.machine.File.{File}
@@ -66,7 +66,7 @@ turn s n m t = record { state = s; gave = n; memory = m; tables = t }
 
 -- "An interrupt sets its IID bit; if IIE has it, PID bit 14 too." Ruling 8: IIE as it is at that moment.
 abbrev pub detected : ℕ → Control → Control
-detected n k = withInternal k (withBit n 1 (k .iid)) (k .iie) (k .pgs)
+detected n k = withInternal k (withBit n 1 (k .iid)) (k .iie)
 
 unfoldable pub interrupted : ℕ → Control → Control
 interrupted n k =
@@ -75,9 +75,12 @@ interrupted n k =
 abbrev pub gives : ℕ → Core → Core
 gives n c = withControl c (interrupted n (c .control))
 
--- an access that failed: "Interrupts 2 and 3 set PGS". Decided by us (docs/DECISIONS.md, part 2, 3): PGS is not locked.
+-- An access that failed. "Interrupts 2 and 3 set PGS" reads since document 02, card 3: "PGS shall keep the first fault
+-- until TRA PGS is executed, and only then take another"; ruling 41: the first 2 or 3 sets PGS and holds it, and while
+-- it is held they change neither.
 abbrev pub withPgs : Control → Translation → Control
-withPgs k x = withInternal k (k .iid) (k .iie) (pgsAfter (k .pgs) x)
+withPgs k x =
+    withPagingStatus k (firstStatus (k .held) (k .pgs) (pgsAfter (k .pgs) x)) (heldAfter (k .held) x)
 
 unfoldable pub faulted : Translation → Core → Core
 faulted x c = gives (faultOf x) (withControl c (withPgs (c .control) x))
@@ -218,10 +221,10 @@ stepIn l c m t =
 -- ---- what leaves the level
 
 abbrev pub withRegs : State → List ℕ → State
-withRegs s b = record { regs = b; level = s .level; control = s .control; pcr = s .pcr }
+withRegs s b = stateWith (s .level) (controlOf s) b (s .pcr)
 
 abbrev pub withPcrs : State → List ℕ → State
-withPcrs s p = record { regs = s .regs; level = s .level; control = s .control; pcr = p }
+withPcrs s p = stateWith (s .level) (controlOf s) (s .regs) p
 
 -- Where register r of a level stands. Levels are below 16: the running one by its range, others as four bits of the
 -- instruction (Decode.fourOf); `% 16` only makes the definition total.
@@ -319,16 +322,13 @@ highestLevel k = highestIn 15 (bitAnd (k .pid) (k .pie))
 
 -- "Interrupts on, and the highest level in PID and PIE (0 if none) is not the running one": a change of level is due
 unfoldable pub changeDue : State → Bool
-changeDue s = eqb (s .control .interrupts) 1 && not (eqb (highestLevel (s .control)) (s .level))
+changeDue s = eqb (s .control .interrupts) 1 && not (eqb (highestLevel (controlOf s)) (s .level))
 
 -- "PVL takes the old level, the new one runs."
 unfoldable pub levelChanged : State → State
-levelChanged s = record {
-  regs = s .regs;
-  level = highestLevel (s .control);
-  control = withLevels (s .control) (s .control .pid) (s .control .pie) (s .level);
-  pcr = s .pcr;
-}
+levelChanged s =
+    let k = controlOf s in
+    stateWith (highestLevel k) (withLevels k (k .pid) (k .pie) (s .level)) (s .regs) (s .pcr)
 
 abbrev pub isStopped : State → Bool
 isStopped s = eqb (s .control .stopped) 1

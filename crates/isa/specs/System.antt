@@ -37,6 +37,7 @@ withSwitches k i p h = record {
   iid = k .iid;
   iie = k .iie;
   pgs = k .pgs;
+  held = k .held;
 }
 
 abbrev pub withLevels : Control → ℕ → ℕ → ℕ → Control
@@ -50,10 +51,11 @@ withLevels k d e v = record {
   iid = k .iid;
   iie = k .iie;
   pgs = k .pgs;
+  held = k .held;
 }
 
-abbrev pub withInternal : Control → ℕ → ℕ → ℕ → Control
-withInternal k d e g = record {
+abbrev pub withInternal : Control → ℕ → ℕ → Control
+withInternal k d e = record {
   interrupts = k .interrupts;
   paging = k .paging;
   stopped = k .stopped;
@@ -62,7 +64,23 @@ withInternal k d e g = record {
   pvl = k .pvl;
   iid = d;
   iie = e;
+  pgs = k .pgs;
+  held = k .held;
+}
+
+-- PGS, and whether it is held
+abbrev pub withPagingStatus : Control → ℕ → ℕ → Control
+withPagingStatus k g h = record {
+  interrupts = k .interrupts;
+  paging = k .paging;
+  stopped = k .stopped;
+  pid = k .pid;
+  pie = k .pie;
+  pvl = k .pvl;
+  iid = k .iid;
+  iie = k .iie;
   pgs = g;
+  held = h;
 }
 
 abbrev pub withPid : Control → ℕ → Control
@@ -95,12 +113,13 @@ internalWord l c Pid = c .control .pid
 internalWord l c Pie = c .control .pie
 internalWord l c Actl = 2 ^ l
 
--- "TRA IIC gives the highest detected number, 0 if none, and clears IID.": all of it
+-- "TRA IIC gives the highest detected number, 0 if none, and clears IID.": all of it. Document 02, card 3: "PGS shall
+-- keep the first fault until TRA PGS is executed, and only then take another"; ruling 42: it keeps its value.
 abbrev pub afterReading : Control → Readable → Control
 afterReading k Status = k
-afterReading k Pgs = k
+afterReading k Pgs = withPagingStatus k (k .pgs) 0
 afterReading k Pvl = k
-afterReading k Iic = withInternal k 0 (k .iie) (k .pgs)
+afterReading k Iic = withInternal k 0 (k .iie)
 afterReading k Pid = k
 afterReading k Pie = k
 afterReading k Actl = k
@@ -115,8 +134,7 @@ withSts c w = withFile c (withReg (c .file) Sts (w % statusRange))
 -- TRR of A; ruling 8: that of IIE never sets PID
 abbrev pub written : Core → Writable → Core
 written c ToStatus = withSts c (reg (c .file) A)
-written c ToIie =
-    withControl c (withInternal (c .control) (c .control .iid) (interruptMask (reg (c .file) A)) (c .control .pgs))
+written c ToIie = withControl c (withInternal (c .control) (c .control .iid) (interruptMask (reg (c .file) A)))
 written c ToPid = withControl c (withPid (c .control) (reg (c .file) A))
 written c ToPie = withControl c (withPie (c .control) (reg (c .file) A))
 

@@ -10,7 +10,8 @@ pub const WORD_RANGE: u32 = 65536;
 
 pub const ALL_ONES: u16 = 0o177777;
 
-// Levels; registers of a level and of all levels; control words, of which the PCRs are the last; all words of a state.
+// Levels; registers of a level and of all levels; among the control words the first PCR, the first of those that
+// document 02 adds behind the PCRs, and how many these are; all control words; all words of a state.
 pub const LEVEL_COUNT: usize = 16;
 
 pub const FILE_SIZE: usize = 8;
@@ -19,7 +20,11 @@ pub const REGISTER_WORDS: usize = LEVEL_COUNT * FILE_SIZE;
 
 pub const FIRST_PCR: usize = 10;
 
-pub const CONTROL_COUNT: usize = FIRST_PCR + LEVEL_COUNT;
+pub const FIRST_ADDED: usize = FIRST_PCR + LEVEL_COUNT;
+
+pub const ADDED_COUNT: usize = 1;
+
+pub const CONTROL_COUNT: usize = FIRST_ADDED + ADDED_COUNT;
 
 pub const STATE_WORDS: usize = REGISTER_WORDS + CONTROL_COUNT;
 

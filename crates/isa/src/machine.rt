@@ -1,7 +1,8 @@
 // What the machine keeps: registers, control words, and the parts that the engine keeps apart.
 ghost use mathlib.Core.Path.{_≡_};
 ghost use Prim.Native.Nat.{_<_};
-ghost use Rattle.isa.specs.Machine.{number, reg, withReg, next, withFile, withPcr, withControl};
+ghost use Rattle.isa.specs.Machine.{number, reg, withReg, next, controlOf, stateWith, withFile, withPcr};
+ghost use Rattle.isa.specs.Machine.{withControl};
 use crate::constant::LEVEL_COUNT;
 use crate::constant::NUMBER_A;
 use crate::constant::NUMBER_B;
@@ -113,9 +114,9 @@ impl File {
     }
 }
 
-// The control words 1 to 9. The level (0) and the PCRs (10 to 25) stand beside them. In C's layout, as is a state.
+// The control words 1 to 9 of a state. In C's layout, as is a state.
 #[repr(C)]
-pub struct Control {
+pub struct Scalars {
     pub interrupts: u16,
     pub paging: u16,
     pub stopped: u16,
@@ -127,17 +128,89 @@ pub struct Control {
     pub pgs: u16,
 }
 
-// The machine as callers hand it in and get it back: register n of a level is word 8 * level + n. In C's layout its 154
+// The control words behind the PCRs: 26, whether PGS is held.
+#[repr(C)]
+pub struct Added {
+    pub held: u16,
+}
+
+// The machine as callers hand it in and get it back: register n of a level is word 8 * level + n. In C's layout its 155
 // words stand in image order, with nothing between them.
 #[repr(C)]
 pub struct State {
     pub regs: [u16; REGISTER_WORDS],
     pub level: u16,
-    pub control: Control,
+    pub control: Scalars,
     pub pcr: [u16; LEVEL_COUNT],
+    pub added: Added,
 }
 
-// What an instruction of the running level works on: the level's registers, its PCR, and the control words 1 to 9.
+// The control words that instructions work on, 1 to 9 and 26; the level (0) and the PCRs (10 to 25) stand beside them.
+// No order of them that was tried takes fewer machine instructions a step of a run (docs/BENCHMARK.md).
+pub struct Control {
+    pub interrupts: u16,
+    pub held: u16,
+    pub paging: u16,
+    pub stopped: u16,
+    pub pid: u16,
+    pub pie: u16,
+    pub pvl: u16,
+    pub iid: u16,
+    pub iie: u16,
+    pub pgs: u16,
+}
+
+impl State {
+    // The control words that instructions work on.
+    pub fn control_words(self) -> Control
+        ensures { λ k. ⌜ k ≡ controlOf self ⌝ }
+    {
+        let w = self.control;
+        let a = self.added;
+        Control {
+            interrupts: w.interrupts,
+            held: a.held,
+            paging: w.paging,
+            stopped: w.stopped,
+            pid: w.pid,
+            pie: w.pie,
+            pvl: w.pvl,
+            iid: w.iid,
+            iie: w.iie,
+            pgs: w.pgs,
+        }
+    }
+
+    // The state of its parts.
+    pub fn with(
+        level: u16,
+        k: Control,
+        regs: [u16; REGISTER_WORDS],
+        pcrs: [u16; LEVEL_COUNT],
+    ) -> State
+        ensures { λ s. ⌜ s ≡ stateWith level k regs pcrs ⌝ }
+    {
+        State {
+            regs: regs,
+            level: level,
+            control: Scalars {
+                interrupts: k.interrupts,
+                paging: k.paging,
+                stopped: k.stopped,
+                pid: k.pid,
+                pie: k.pie,
+                pvl: k.pvl,
+                iid: k.iid,
+                iie: k.iie,
+                pgs: k.pgs,
+            },
+            pcr: pcrs,
+            added: Added { held: k.held },
+        }
+    }
+}
+
+// What an instruction of the running level works on: the level's registers, its PCR, and those control words.
 pub struct Core {
     pub file: File,
     pub pcr: u16,

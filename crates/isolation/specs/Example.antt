@@ -5,7 +5,7 @@ use mathlib.Core.Path.{_≡_, refl}
 use mathlib.Core.Bool.{true, false}
 use mathlib.Core.List.{List, [], _∷_, _++_}
 use lib.ListN.{getD, replicate}
-use Rattle.isa.specs.Machine.{fileAt, putFile, inRange, sizesFit}
+use Rattle.isa.specs.Machine.{fileAt, putFile, inRange, sizesFit, stateWith}
 use Rattle.isa.specs.Flags.{adder, withOverflow, withSum, productOverflow, divisionFails, leftOnce, rightOnce}
 use Rattle.isa.specs.Decode.{byCode, byNumber, decode, traOf, trrOf, maskedOf, switchOf, srbOf, lrbOf, shiftOf}
 use Rattle.isa.specs.Address.{firstAddress}
@@ -51,12 +51,9 @@ tables = 0o061000 ∷ 0 ∷ 0o163002 ∷ (replicate 61 0 ++ (0 ∷ 0o141001 ∷ 
 -- Level 1 with P as given, B at virtual page 1, X at virtual page 2; paging on; PCR: ring 1, alternate table 1, normal
 -- table 0.
 abbrev pub pairStart : ℕ → State
-pairStart p = record {
-  regs = replicate 8 0 ++ (0 ∷ 0 ∷ p ∷ 0o002000 ∷ 0 ∷ 0 ∷ 0 ∷ 0o004000 ∷ replicate 112 0);
-  level = 1;
-  control = quiet 1;
-  pcr = 0 ∷ 0o201 ∷ replicate 14 0;
-}
+pairStart p =
+    stateWith 1 (quiet 1) (replicate 8 0 ++ (0 ∷ 0 ∷ p ∷ 0o002000 ∷ 0 ∷ 0 ∷ 0 ∷ 0o004000 ∷ replicate 112 0))
+    (0 ∷ 0o201 ∷ replicate 14 0)
 
 -- What is looked at after a run: steps taken, A, P and STS of level 1, IID, PGS, the message, and the two foreign
 -- words.

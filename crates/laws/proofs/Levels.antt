@@ -4,25 +4,18 @@ use Prim.Native.Nat.{ℕ, zero, suc, _/_, _%_, _^_, _<_, _≤_}
 use native.Mathlib.Decide.{ℕ-discrete}
 use native.Mathlib.Omega.{arith}
 use mathlib.Core.Path.{_≡_, refl, sym, ap, _∙_}
-use mathlib.Core.Bool.{Bool, true, false, not, _&&_}
-use mathlib.Core.List.{List, [], _∷_}
+use mathlib.Core.Bool.{Bool, true, false, not}
 use lib.Dec.{eqb}
 use lib.Bits.{bitAnd, and-shr, and-mod, and-zero-l, and-zero-r}
 use borrow.Author.Tests.{eqb-true, eq-eqb, ne-eqb}
-use Rattle.isa.specs.Machine.{bit, coreOf, withCore}
+use Rattle.isa.specs.Machine.{bit, coreOf, controlOf}
 use Rattle.isa.specs.System.{highestIn}
-use Rattle.isa.specs.Pages.{Tested, passes, wordsAt}
-use Rattle.isa.specs.Step.{Part, Turn, stepIn, isP, putOther, blockOrder, putBlock, blockStored, blockLoaded}
-use Rattle.isa.specs.Step.{blockTested, farStage, settled, highestLevel, changeDue, levelChanged, step}
+use Rattle.isa.specs.Step.{Part, Turn, stepIn, settled, highestLevel, changeDue, levelChanged, step}
 use Rattle.isa.specs.declared.machine.Control.{Control}
 use Rattle.isa.specs.declared.machine.State.{State}
-use Rattle.isa.specs.declared.machine.Register.{Register}
-use Rattle.isa.specs.declared.access.AccessKind.the-variants.{Read, Write}
-use Rattle.isa.specs.declared.answer.Far.{Far}
-use Rattle.isa.specs.declared.answer.Far.the-variants.{Nothing, Call, ReadRegister, WriteRegister, ReadPcr, WritePcr}
-use Rattle.isa.specs.declared.answer.Far.the-variants.{StoreBlock, LoadBlock}
-use Rattle.isa.proofs.Tests.{either, decided}
+use Rattle.isa.proofs.Tests.{decided}
 use Rattle.laws.specs.Statement.{HighestRaised, RaisedLevelRuns}
+use Rattle.laws.proofs.Far.{settled-keeps}
 
 -- ---- the highest bit
 
@@ -67,55 +60,26 @@ highest-level k l h =
 
 -- ---- an instruction leaves the level
 
-other-level : (s : State) (l : ℕ) (r : Register) (w : ℕ) → putOther s l r w .level ≡ s .level
-unfolding putOther
-other-level s l r w = either (λ (q : State). q .level ≡ s .level) (eqb (l % 16) (s .level) && isP r) refl refl
-
-block-level : (rs : List Register) (s : State) (l : ℕ) (ws : List ℕ) → putBlock s l rs ws .level ≡ s .level
-block-level [] s l ws = refl
-block-level (r ∷ rs) s l [] = refl
-block-level (r ∷ rs) s l (w ∷ ws) = block-level rs (putOther s l r w) l ws ∙ other-level s l r w
-
-stored-level : (s : State) (l : ℕ) (m : List ℕ) (r : Tested) → blockStored s l m r .state .level ≡ s .level
-unfolding blockStored
-stored-level s l m r = either (λ (q : Turn). q .state .level ≡ s .level) (passes (r .fault)) refl refl
-
-loaded-level : (s : State) (l : ℕ) (m : List ℕ) (r : Tested) → blockLoaded s l m r .state .level ≡ s .level
-unfolding blockLoaded
-loaded-level s l m r =
-    either (λ (q : Turn). q .state .level ≡ s .level) (passes (r .fault))
-    (block-level blockOrder s l (wordsAt m (r .tables) (r .places))) refl
-
-far-level : (s : State) (n : ℕ) (m t : List ℕ) (x : Far) → farStage s n m t x .state .level ≡ s .level
-unfolding farStage
-far-level s n m t Nothing = refl
-far-level s n m t (Call w) = refl
-far-level s n m t (ReadRegister l r) = refl
-far-level s n m t (WriteRegister l r) = other-level s l r _
-far-level s n m t ReadPcr = refl
-far-level s n m t WritePcr = refl
-far-level s n m t (StoreBlock l) = stored-level s l m (blockTested Write s m t)
-far-level s n m t (LoadBlock l) = loaded-level s l m (blockTested Read s m t)
-
 settled-level : (s : State) (r : Part) → settled s r .state .level ≡ s .level
-unfolding settled
-settled-level s r = far-level (withCore s (r .near .core)) (r .near .gave) (r .memory) (r .tables) (r .near .far)
+settled-level s r =
+    settled-keeps (λ (q : State). q .level ≡ s .level) (λ n. Unit {0}) (λ q b h. h) (λ q p h. h) (λ q x h f. h) s r refl
+    tt
 
 -- ---- one step
 
 -- no change is due where interrupts are on: the highest level is the running one
-none-due : (s : State) → s .control .interrupts ≡ 1 → changeDue s ≡ false → highestLevel (s .control) ≡ s .level
+none-due : (s : State) → s .control .interrupts ≡ 1 → changeDue s ≡ false → highestLevel (controlOf s) ≡ s .level
 unfolding changeDue
-none-due s on d = go (eqb (highestLevel (s .control)) (s .level)) refl (rw (eq-eqb (s .control .interrupts) 1 on) at d)
+none-due s on d = go (eqb (highestLevel (controlOf s)) (s .level)) refl (rw (eq-eqb (s .control .interrupts) 1 on) at d)
   where
-    go : (b : Bool) → eqb (highestLevel (s .control)) (s .level) ≡ b → not b ≡ false
-        → highestLevel (s .control) ≡ s .level
-    go true e f = eqb-true (highestLevel (s .control)) (s .level) e
+    go : (b : Bool) → eqb (highestLevel (controlOf s)) (s .level) ≡ b → not b ≡ false
+        → highestLevel (controlOf s) ≡ s .level
+    go true e f = eqb-true (highestLevel (controlOf s)) (s .level) e
     go false e f = cc
 
 pub raised-level-runs : RaisedLevelRuns
 unfolding step levelChanged
 raised-level-runs s m t l runs on h =
     rw runs
-    (decided (λ (r : Turn). r .state .level ≡ l) (changeDue s) (λ e. highest-level (s .control) l h)
-    (λ e. settled-level s (stepIn (s .level) (coreOf s) m t) ∙ sym (none-due s on e) ∙ highest-level (s .control) l h))
+    (decided (λ (r : Turn). r .state .level ≡ l) (changeDue s) (λ e. highest-level (controlOf s) l h)
+    (λ e. settled-level s (stepIn (s .level) (coreOf s) m t) ∙ sym (none-due s on e) ∙ highest-level (controlOf s) l h))

@@ -1,6 +1,7 @@
--- What document 01 says of a step and of a view that follows from their definitions: each law under its sentence.
-use Rattle.isa.specs.Machine.{levelCount, registerWords}
-use Prim.Native.Nat.{ℕ, _+_, _<_, _≤_}
+-- What document 01, and document 02 after it, says of a step, a run and a view that follows from their definitions:
+-- each law under its sentence.
+use Rattle.isa.specs.Machine.{levelCount, registerWords, controlOf}
+use Prim.Native.Nat.{ℕ, zero, suc, _+_, _<_, _≤_}
 use mathlib.Core.Path.{_≡_}
 use mathlib.Core.Bool.{Bool, true, false, cond, _||_}
 use mathlib.Core.List.{List, []}
@@ -8,19 +9,26 @@ use lib.ListN.{getD, set, length}
 use lib.Dec.{eqb}
 use Rattle.isa.specs.Machine.{bit, reg, coreOf, normalTableOf}
 use Rattle.isa.specs.Address.{sum}
-use Rattle.isa.specs.Pages.{slotOf, entryAt, translate, passes, rightsOf}
-use Rattle.isa.specs.Step.{Turn, step, isStopped, changeDue, fetchOf, instructionOf, placeOf, registerAt}
+use Rattle.isa.specs.System.{withPagingStatus}
+use Rattle.isa.specs.Pages.{slotOf, entryAt, translate, marked, passes, wordAt, rightsOf}
+use Rattle.isa.specs.Step.{Turn, turn, withPgs, privileged, instructionOf, afterFetch, fetchOf, placeOf, registerAt}
+use Rattle.isa.specs.Step.{isStopped, changeDue, step}
+use Rattle.isa.specs.Run.{runFrom}
 use Rattle.isa.specs.Answers.{refusalNumber, reasonNumber, answerNumbers, stepNumbers, runNumbers, stepTold, runTold}
 use Rattle.isa.specs.Answers.{raiseTold, loadTold, writeTold, viewTold, stepCall, runCall, raiseCall, loadCall}
 use Rattle.isa.specs.Answers.{writeAnswer, targetOf, viewAnswer, viewed}
 use Rattle.isa.specs.Isolation.{MarksAlone}
 use Rattle.isa.specs.declared.machine.Control.{Control}
 use Rattle.isa.specs.declared.machine.State.{State}
-use Rattle.isa.specs.declared.machine.Register.the-variants.{P}
+use Rattle.isa.specs.declared.machine.Register.the-variants.{P, A}
+use Rattle.isa.specs.declared.instruction.Readable.the-variants.{Pgs}
+use Rattle.isa.specs.declared.instruction.ControlOp.the-variants.{Tra}
 use Rattle.isa.specs.declared.instruction.System.{System}
+use Rattle.isa.specs.declared.instruction.System.the-variants.{Control as ControlOf}
+use Rattle.isa.specs.declared.instruction.Instruction.{Instruction}
 use Rattle.isa.specs.declared.instruction.Instruction.the-variants.{Privileged}
 use Rattle.isa.specs.declared.access.Translation.{Translation}
-use Rattle.isa.specs.declared.access.Translation.the-variants.{Load}
+use Rattle.isa.specs.declared.access.Translation.the-variants.{Load, Protection, PageFault}
 use Rattle.isa.specs.declared.answer.Reason.{Reason}
 use Rattle.isa.specs.declared.answer.Target.{Target}
 use Rattle.isa.specs.declared.answer.Refusal.{Refusal}
@@ -41,8 +49,8 @@ pub record HighestRaised (k : Control) (l : ℕ) : Type 0 where
 -- whether it is the running level already or not
 abbrev pub RaisedLevelRuns : Type 0
 RaisedLevelRuns =
-    (s : State) (m t : List ℕ) (l : ℕ) → isStopped s ≡ false → s .control .interrupts ≡ 1 → HighestRaised (s .control) l
-    → step s m t .state .level ≡ l
+    (s : State) (m t : List ℕ) (l : ℕ) → isStopped s ≡ false → s .control .interrupts ≡ 1
+    → HighestRaised (controlOf s) l → step s m t .state .level ≡ l
 
 -- ---- "An instruction that faults (2, 3, 4, 6, 7 or 9) stores nothing and changes no register but P. Fetch faults
 -- ---- leave P; all others leave it one further."
@@ -88,11 +96,79 @@ pub record Fetches (s : State) (m t : List ℕ) (p : ℕ) : Type 0 where
 abbrev pub fetchRing : State → List ℕ → ℕ
 fetchRing s t = entryAt t (slotOf (normalTableOf (coreOf s .pcr)) (reg (coreOf s .file) P)) .ring
 
+-- the instruction that the step fetches, or that an EXR brings in; u is the page tables with the fetch's mark
+abbrev pub fetchedInstruction : State → List ℕ → List ℕ → Instruction
+fetchedInstruction s m t =
+    let u = marked t (length m) (rightsOf (coreOf s)) (fetchOf (coreOf s)) in
+    instructionOf (coreOf s) (wordAt m u (fetchOutcome s m t))
+
 -- on ring 0 or 1 a privileged code, by an EXR too, gives 6, whatever the user's ring was
 abbrev pub PrivilegedTrapped : Type 0
 PrivilegedTrapped =
     (s : State) (m t : List ℕ) (p : ℕ) (o : System) → Fetches s m t p → fetchRing s t ≤ 1
     → instructionOf (coreOf s) (getD m p 0) ≡ Privileged o → step s m t .gave ≡ 6
+
+-- ---- Document 02, card 3: "PGS shall keep the first fault until TRA PGS is executed, and only then take another."
+
+-- the step executes TRA PGS: the machine is not stopped and no change of level is due, the fetch passes, TRA PGS is
+-- fetched or brought in by an EXR, and the ring that the fetch leaves permits it
+pub record ReadsPgs (s : State) (m t : List ℕ) : Type 0 where
+  pub runs : isStopped s ≡ false
+  pub level-stays : changeDue s ≡ false
+  pub passed : passes (fetchOutcome s m t) ≡ true
+  pub code : fetchedInstruction s m t ≡ Privileged (ControlOf (Tra Pgs))
+  pub permitted : privileged (afterFetch (coreOf s) (fetchRing s t) (fetchOutcome s m t)) ≡ true
+
+-- PGS and whether it is held are in q as they are in k
+abbrev pub SameStatus : Control → Control → Type 0
+SameStatus k q = (q .pgs ≡ k .pgs) × (q .held ≡ k .held)
+
+-- ruling 41: where PGS is not held, a 2 or 3 of status g writes it whole and holds it ..
+abbrev pub FirstFaultHeld : Type 0
+FirstFaultHeld =
+    (k : Control) (g : ℕ) → k .held ≡ 0
+    → (withPgs k (Protection g) ≡ withPagingStatus k g 1) × (withPgs k (PageFault g) ≡ withPagingStatus k g 1)
+
+-- .. and while it is held, an access that fails changes neither
+abbrev pub HeldFaultStays : Type 0
+HeldFaultStays = (k : Control) (x : Translation) → k .held ≡ 1 → withPgs k x ≡ k
+
+-- no step but one that executes TRA PGS changes a held PGS or word 26, whatever else it does
+abbrev pub HeldStatusStays : Type 0
+HeldStatusStays =
+    (s : State) (m t : List ℕ) → s .added .held ≡ 1 → (ReadsPgs s m t → ⊥)
+    → SameStatus (controlOf s) (controlOf (step s m t .state))
+
+-- held or not, nothing but interrupts 2 and 3 and TRA PGS changes either
+abbrev pub StatusStays : Type 0
+StatusStays =
+    (s : State) (m t : List ℕ) → (step s m t .gave ≡ 2 → ⊥) → (step s m t .gave ≡ 3 → ⊥) → (ReadsPgs s m t → ⊥)
+    → SameStatus (controlOf s) (controlOf (step s m t .state))
+
+-- ruling 42: TRA PGS gives A the word PGS, and releases PGS, which keeps its value; it changes no other of the control
+-- words 1 to 9 and 26
+abbrev pub ReadingReleases : Type 0
+ReadingReleases =
+    (s : State) (m t : List ℕ) → ReadsPgs s m t
+    → controlOf (step s m t .state) ≡ withPagingStatus (controlOf s) (s .control .pgs) 0
+
+abbrev pub ReadingGives : Type 0
+ReadingGives =
+    (s : State) (m t : List ℕ) → s .level < levelCount → length (s .regs) ≡ registerWords → ReadsPgs s m t
+    → registerAt (step s m t .state) (s .level) A ≡ s .control .pgs
+
+-- the machine after j steps
+abbrev pub stepped : ℕ → State → List ℕ → List ℕ → Turn
+stepped zero s m t = turn s 0 m t
+stepped (suc j) s m t = let r = step s m t in stepped j (r .state) (r .memory) (r .tables)
+
+-- through a run of either form, none of whose steps executes TRA PGS, a held PGS stays held and keeps its value
+abbrev pub HeldThroughRun : Type 0
+HeldThroughRun =
+    (first : Bool) (n : ℕ) (s : State) (m t : List ℕ) → s .added .held ≡ 1
+    → ((j : ℕ) → j < runFrom first n 0 s m t .steps
+    → let r = stepped j s m t in ReadsPgs (r .state) (r .memory) (r .tables) → ⊥)
+    → SameStatus (controlOf s) (controlOf (runFrom first n 0 s m t .state))
 
 -- ---- "View: .. It answers a part of the caller's memory or of the caller's page tables." "a refused view is empty"
 

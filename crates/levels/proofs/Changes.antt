@@ -1,6 +1,6 @@
 -- A change of level: when it is due, and what it leaves.
 -- Assumes nothing.
-use Rattle.isa.specs.Machine.{levelCount, registerWords}
+use Rattle.isa.specs.Machine.{levelCount, registerWords, controlOf, stateWith}
 use Prim.Native.Nat.{ℕ, _<_}
 use mathlib.Core.Path.{_≡_, refl, ap, _∙_}
 use mathlib.Core.List.{List}
@@ -15,7 +15,7 @@ use Rattle.isa.specs.declared.machine.State.{State}
 use Rattle.levels.specs.Changes.{coreAt, dueAt}
 
 -- whether a change is due is told by the level and the control words
-pub due-pack : (s : State) → changeDue s ≡ dueAt (s .level) (s .control)
+pub due-pack : (s : State) → changeDue s ≡ dueAt (s .level) (controlOf s)
 unfolding changeDue
 due-pack s = refl
 
@@ -36,7 +36,7 @@ pub changed-level :
     → turn (pack to d b p) 0 m t ≡ turn (levelChanged (pack l c regs pcrs)) 0 m t
 unfolding levelChanged
 changed-level l c regs pcrs to k b p d h eb ep ed et m t =
-    let s : State = record { regs = b; level = to; control = oldLevel l c; pcr = p } in
+    let s : State = stateWith to (oldLevel l c) b p in
     ap (λ (x : Core). turn (pack to x b p) 0 m t) ed
     ∙ ap (λ (x : State). turn x 0 m t) (pack-open s k h)
-    ∙ (λ i. turn (record { regs = eb i; level = et i; control = oldLevel l c; pcr = ep i }) 0 m t)
+    ∙ (λ i. turn (stateWith (et i) (oldLevel l c) (eb i) (ep i)) 0 m t)

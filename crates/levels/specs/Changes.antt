@@ -3,7 +3,7 @@ use Prim.Native.Nat.{ℕ}
 use mathlib.Core.Bool.{Bool, not, _&&_}
 use mathlib.Core.List.{List}
 use lib.Dec.{eqb}
-use Rattle.isa.specs.Machine.{coreOf, pack}
+use Rattle.isa.specs.Machine.{coreOf, pack, stateWith}
 use Rattle.isa.specs.Step.{Turn, turn, highestLevel}
 use Rattle.isa.specs.declared.machine.Control.{Control}
 use Rattle.isa.specs.declared.machine.Core.{Core}
@@ -11,7 +11,7 @@ use Rattle.levels.specs.declared.change.Advanced.{Advanced}
 
 -- the words of the level l among those of all levels, with the control words k
 abbrev pub coreAt : ℕ → Control → List ℕ → List ℕ → Core
-coreAt l k regs pcrs = coreOf (record { regs = regs; level = l; control = k; pcr = pcrs })
+coreAt l k regs pcrs = coreOf (stateWith l k regs pcrs)
 
 -- by the control words alone: whether a change of the level l is due
 abbrev pub dueAt : ℕ → Control → Bool

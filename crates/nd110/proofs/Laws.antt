@@ -3,13 +3,13 @@
 use Prim.Native.Nat.{ℕ, _+_, _≤_}
 use mathlib.Core.Path.{_≡_, refl, sym, ap, _∙_}
 use mathlib.Core.Bool.{Bool, cond}
-use mathlib.Core.List.{List, [], _∷_, _++_, append-nil}
+use mathlib.Core.List.{List, _++_, append-nil}
 use native.Mathlib.Omega.{arith}
 use native.Mathlib.Nat.{le-of-eq, zero-add}
 use lib.ListN.{length, getD, take, drop, length-take, take-append-drop, drop-of-length-le}
 use lib.Seq.{paste, take-all, take-at, getD-drop}
 use borrow.Author.Tests.{eq-eqb, ne-eqb}
-use Rattle.isa.specs.Machine.{registerWords, stateWords, stateWith}
+use Rattle.isa.specs.Machine.{registerWords, stateWords, controlOf, stateWith}
 use Rattle.isa.specs.Answers.{stateAnswer, StepCall, stepCallBy, stepCall, viewAnswer, viewedBy, viewed, targetOf}
 use Rattle.isa.specs.declared.machine.Control.{Control}
 use Rattle.isa.specs.declared.machine.State.{State}
@@ -90,7 +90,7 @@ step-ends s w m t y e = go (stateAnswer s m t)
 
 pub step-on-words : (w m t y : List ℕ) (k : Control) (p : List ℕ) (r : StepEnd) (b q m′ t′ : List ℕ) (l : Left)
     → length w ≡ stateWords
-    → k ≡ stateIn w .control
+    → k ≡ controlOf (stateIn w)
     → p ≡ stateIn w .pcr
     → length b ≡ registerWords
     → stepCalled r b q m′ t′ ≡ stepCall (stateWith (getD w registerWords 0) k (take registerWords w) p) m t

@@ -2,19 +2,20 @@
 -- Assumes nothing.
 use Prim.Native.Nat.{ℕ}
 use native.Mathlib.Omega.{arith}
-use mathlib.Core.List.{List}
+use mathlib.Core.List.{List, []}
 use lib.ListN.{drop}
 use mir.Syntax.{w16}
 use mir.Val.{Val}
 use denote.Laws.{Is}
 use denote.Struct.Declared.{row}
 use borrow.Author.Needs.{length-unmapped, elem-fits-field}
-use Rattle.isa.specs.Machine.{Typed, controlWords}
+use Rattle.isa.specs.Machine.{Typed, addedWords, controlWords, controlOf}
 use Rattle.isa.specs.declared.machine.State.{State}
 use Rattle.isa.proofs.machine.State.{the-type}
-use Rattle.ranges.proofs.Places.{cons-words}
+use Rattle.ranges.proofs.Places.{nil-words, cons-words, append-words}
 
--- a state that the code has, of the machine values vs: q has its fields one after the other, registers first, PCRs last
+-- a state that the code has, of the machine values vs: q has its fields one after the other, registers first, the words
+-- behind the PCRs last
 pub typed : (s : State) (vs : List Val) → Is (row the-type) s vs → Typed s
 typed s vs h =
     let q = h .1 .1 in
@@ -34,5 +35,7 @@ typed s vs h =
           (cons-words (s .control .iid) (drop 8 w) (omega arith)
           (cons-words (s .control .iie) (drop 9 w) (omega arith)
           (cons-words (s .control .pgs) (drop 10 w) (omega arith)
-          (λ i. elem-fits-field w16 w16 (s .pcr) (q .1 .1 .1 .0 .0) i (q .1 .1 .1 .0 .1 .1) tt .fits))))))))));
+          (append-words (s .pcr) (addedWords (controlOf s))
+          (λ i. elem-fits-field w16 w16 (s .pcr) (q .1 .1 .1 .0 .0) i (q .1 .1 .1 .0 .1 .1) tt .fits)
+          (cons-words (s .added .held) [] (omega arith) nil-words)))))))))));
     }

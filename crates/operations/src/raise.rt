@@ -35,7 +35,7 @@ pub fn raise(s: State, level: u16, mem: &[u16], tables: &[u16]) -> RaiseResult
     ensures { λ r. ⌜ raiseOf r ≡ raiseCall s level (now (mem .entry)) (now (tables .entry)) ⌝ }
     ensures { λ r. ⌜ answerNumbers (r .answer) ≡ raiseTold s level (now (mem .entry)) (now (tables .entry)) ⌝ }
 {
-    let k = s.control;
+    let k = s.control_words();
     let a = level_answer(
         level,
         parts_answer(s.level, k, &s.regs, &s.pcr, mem, tables),

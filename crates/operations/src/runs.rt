@@ -23,7 +23,7 @@ pub fn run_by(s: State, mem: &mut [u16], tables: &mut [u16], n: u64, first: bool
 {
     let mut regs = s.regs;
     let mut pcrs = s.pcr;
-    let k = s.control;
+    let k = s.control_words();
     let a = parts_answer(s.level, k, &regs, &pcrs, mem, tables);
     match a {
         Answer::Done => {
@@ -43,12 +43,7 @@ pub fn run_by(s: State, mem: &mut [u16], tables: &mut [u16], n: u64, first: bool
             let reason = r.reason;
             RunResult {
                 answer: RunAnswer::Ran(r.steps, reason),
-                state: State {
-                    regs: regs,
-                    level: r.level,
-                    control: control,
-                    pcr: pcrs,
-                },
+                state: State::with(r.level, control, regs, pcrs),
             }
         }
         Answer::Refused(x) => RunResult {

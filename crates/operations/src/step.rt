@@ -19,17 +19,12 @@ pub fn step(s: State, mem: &mut [u16], tables: &mut [u16]) -> StepResult
 {
     let mut regs = s.regs;
     let mut pcrs = s.pcr;
-    let k = s.control;
+    let k = s.control_words();
     let r = run::step::step(s.level, k, &mut regs, &mut pcrs, mem, tables);
     let answer = r.answer;
     let control = r.control;
     StepResult {
         answer: answer,
-        state: State {
-            regs: regs,
-            level: r.level,
-            control: control,
-            pcr: pcrs,
-        },
+        state: State::with(r.level, control, regs, pcrs),
     }
 }

@@ -1,9 +1,9 @@
-// What comes of an access: its interrupt, PGS, and the word at its place.
+// What comes of an access: its interrupt, PGS and whether it is held, and the word at its place.
 ghost use Rattle.isa.specs.Machine.{tableWords};
 ghost use mathlib.Core.Path.{_≡_};
 ghost use mathlib.Core.List.{[], _∷_};
 ghost use lib.ListN.{length};
-ghost use Rattle.isa.specs.Pages.{faultOf, pgsAfter, wordAt, storeAll, lent};
+ghost use Rattle.isa.specs.Pages.{faultOf, pgsAfter, firstStatus, heldAfter, wordAt, storeAll, lent};
 ghost use Rattle.paging.specs.Within.{Within, isStore};
 use isa::access::Translation;
 use isa::constant::INTERRUPT_OUT_OF_RANGE;
@@ -26,7 +26,7 @@ pub fn fault_of(x: Translation) -> u16
     }
 }
 
-// PGS after an access.
+// PGS after an access, where it is not held.
 pub fn pgs_after(old: u16, x: Translation) -> u16
     ensures { λ n. ⌜ n ≡ pgsAfter old x ⌝ }
 {
@@ -39,6 +39,32 @@ pub fn pgs_after(old: u16, x: Translation) -> u16
         Translation::Protection(g) => g,
         Translation::PageFault(g) => g,
         Translation::OutOfRange => old,
+    }
+}
+
+// PGS after a fault of status g: a held one stays.
+pub fn first_status(held: u16, old: u16, g: u16) -> u16
+    ensures { λ n. ⌜ n ≡ firstStatus held old g ⌝ }
+{
+    if held == 1 {
+        return old;
+    }
+    g
+}
+
+// Whether PGS is held after an access: from the first 2 or 3 on.
+pub fn held_after(held: u16, x: Translation) -> u16
+    ensures { λ n. ⌜ n ≡ heldAfter held x ⌝ }
+{
+    match x {
+        Translation::NoAccess => held,
+        Translation::Load(_) => held,
+        Translation::Store(_) => held,
+        Translation::LoadTable(_) => held,
+        Translation::StoreTable(_) => held,
+        Translation::Protection(_) => 1,
+        Translation::PageFault(_) => 1,
+        Translation::OutOfRange => held,
     }
 }
 

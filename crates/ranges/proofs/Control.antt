@@ -13,7 +13,7 @@ use Rattle.isa.specs.Machine.{bit, withBit, reg, withFile, withControl, nextCor
 use Rattle.isa.specs.Flags.{complement}
 use Rattle.isa.specs.System.{highestIn, withSwitches, withLevels, withInternal, withPid, withPie, waited}
 use Rattle.isa.specs.System.{internalWord, afterReading, read, withSts, written, bitsCleared, bitsSet, switched}
-use Rattle.isa.specs.System.{controlled}
+use Rattle.isa.specs.System.{withPagingStatus, controlled}
 use Rattle.isa.specs.Pages.{loweredPcr, lowered}
 use Rattle.isa.specs.Step.{detected, interrupted, gives}
 use Rattle.isa.specs.declared.machine.Control.{Control}
@@ -51,7 +51,7 @@ pub record PgsFits (w : ℕ) : Type 0 where
   pub clear : w / 256 % 64 ≡ 0
   pub word : w < 65536
 
--- the control words 1 to 9
+-- the control words 1 to 9 and 26
 pub record ControlFits (k : Control) : Type 0 where
   pub interrupts : k .interrupts < 2
   pub paging : k .paging < 2
@@ -62,6 +62,7 @@ pub record ControlFits (k : Control) : Type 0 where
   pub iid : InterruptFits (k .iid)
   pub iie : InterruptFits (k .iie)
   pub pgs : PgsFits (k .pgs)
+  pub held : k .held < 2
 
 -- what an instruction of the running level works on
 pub record CoreFits (c : Core) : Type 0 where
@@ -83,6 +84,7 @@ switches-fit q i p h a b c = record {
   iid = q .iid;
   iie = q .iie;
   pgs = q .pgs;
+  held = q .held;
 }
 
 -- PID, PIE and PVL
@@ -98,12 +100,13 @@ levels-fit q d e v a b c = record {
   iid = q .iid;
   iie = q .iie;
   pgs = q .pgs;
+  held = q .held;
 }
 
--- IID, IIE and PGS
-pub internal-fit : {k : Control} → ControlFits k → {d e g : ℕ}
-    → InterruptFits d → InterruptFits e → PgsFits g → ControlFits (withInternal k d e g)
-internal-fit q a b c = record {
+-- IID and IIE
+internal-fit : {k : Control} → ControlFits k → {d e : ℕ} → InterruptFits d → InterruptFits e
+    → ControlFits (withInternal k d e)
+internal-fit q a b = record {
   interrupts = q .interrupts;
   paging = q .paging;
   stopped = q .stopped;
@@ -112,7 +115,23 @@ internal-fit q a b c = record {
   pvl = q .pvl;
   iid = a;
   iie = b;
-  pgs = c;
+  pgs = q .pgs;
+  held = q .held;
+}
+
+-- PGS, and whether it is held
+pub status-fit : {k : Control} → ControlFits k → {g h : ℕ} → PgsFits g → h < 2 → ControlFits (withPagingStatus k g h)
+status-fit q a b = record {
+  interrupts = q .interrupts;
+  paging = q .paging;
+  stopped = q .stopped;
+  pid = q .pid;
+  pie = q .pie;
+  pvl = q .pvl;
+  iid = q .iid;
+  iie = q .iie;
+  pgs = a;
+  held = b;
 }
 
 -- PID alone, PIE alone
@@ -145,7 +164,7 @@ interrupted-fits n {k} a b q =
       even = bit-even n 1 (k .iid) a (q .iid .even);
       low = bit-below 11 n 1 (k .iid) b (omega arith) (q .iid .low);
     } in
-    let d : ControlFits (detected n k) = internal-fit q i (q .iie) (q .pgs) in
+    let d : ControlFits (detected n k) = internal-fit q i (q .iie) in
     either ControlFits (eqb (bit n (k .iie)) 1)
     (pid-fits d (bit-below 16 14 1 (k .pid) (omega arith) (omega arith) (q .pid))) d
 
@@ -196,12 +215,12 @@ internal-word l h q Pid = q .control .pid
 internal-word l h q Pie = q .control .pie
 internal-word l h q Actl = pow-lt h
 
--- TRA IIC clears IID
+-- TRA IIC clears IID, TRA PGS releases PGS
 reading-fits : {k : Control} → ControlFits k → (r : Readable) → ControlFits (afterReading k r)
 reading-fits q Status = q
-reading-fits q Pgs = q
+reading-fits q Pgs = status-fit q (q .pgs) (omega arith)
 reading-fits q Pvl = q
-reading-fits q Iic = internal-fit q (record { even = refl; low = omega arith }) (q .iie) (q .pgs)
+reading-fits q Iic = internal-fit q (record { even = refl; low = omega arith }) (q .iie)
 reading-fits q Pid = q
 reading-fits q Pie = q
 reading-fits q Actl = q
@@ -223,8 +242,7 @@ sts-fits q w = file-fits q (with-sts (q .file) (omega arith))
 written-fits : {c : Core} → CoreFits c → (r : Writable) → CoreFits (written c r)
 written-fits {c} q ToStatus = sts-fits q (reg (c .file) A)
 written-fits {c} q ToIie =
-    control-fits q (internal-fit (q .control) (q .control .iid) (interrupt-mask-fits (reg (c .file) A))
-    (q .control .pgs))
+    control-fits q (internal-fit (q .control) (q .control .iid) (interrupt-mask-fits (reg (c .file) A)))
 written-fits q ToPid = control-fits q (pid-fits (q .control) (reg-word (q .file) A))
 written-fits q ToPie = control-fits q (pie-fits (q .control) (reg-word (q .file) A))
 

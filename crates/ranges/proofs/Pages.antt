@@ -11,7 +11,8 @@ use borrow.Author.Tests.{eqb-false}
 use Rattle.isa.specs.Machine.{Words, flag, flagPTM}
 use Rattle.isa.specs.Pages.{Entry, entryAt, slotOf, somePermit, needed, ringAllows, physical, pagingStatus, inMemory}
 use Rattle.isa.specs.Pages.{inTables, withinMemory, judged, tableOf, inWindow, translate, faultOf, pgsAfter, passes}
-use Rattle.isa.specs.Pages.{markOf, marked, Tested, testAll, wordAt, wordsAt, Lent, storeAll, rightsOf}
+use Rattle.isa.specs.Pages.{firstStatus, heldAfter, markOf, marked, Tested, testAll, wordAt, wordsAt, Lent, storeAll}
+use Rattle.isa.specs.Pages.{rightsOf}
 use Rattle.isa.specs.Step.{faulted}
 use Rattle.isa.specs.declared.machine.Core.{Core}
 use Rattle.isa.specs.declared.access.Access.{Access}
@@ -24,7 +25,7 @@ use Rattle.isa.specs.declared.access.Translation.the-variants.{Protection, Page
 use Rattle.isa.proofs.Tables.{marked-keeps, tested-keeps}
 use Rattle.isa.proofs.Tests.{either}
 use Rattle.ranges.proofs.Places.{Each, set-words, nil-words, cons-words, drop-each}
-use Rattle.ranges.proofs.Control.{PgsFits, CoreFits, internal-fit, control-fits, gives-fits}
+use Rattle.ranges.proofs.Control.{PgsFits, CoreFits, status-fit, control-fits, gives-fits}
 
 -- ---- the paging status
 
@@ -114,6 +115,21 @@ after-fits h (Protection g) f = f
 after-fits h (PageFault g) f = f
 after-fits h OutOfRange f = h
 
+-- .. by whether it is held
+first-fits : (held : ℕ) {old g : ℕ} → PgsFits old → PgsFits g → PgsFits (firstStatus held old g)
+first-fits held a b = either PgsFits (eqb held 1) a b
+
+-- whether PGS is held after an access
+held-fits : {old : ℕ} → old < 2 → (x : Translation) → heldAfter old x < 2
+held-fits h NoAccess = h
+held-fits h (Load p) = h
+held-fits h (Store p) = h
+held-fits h (LoadTable i) = h
+held-fits h (StoreTable i) = h
+held-fits h (Protection g) = omega arith
+held-fits h (PageFault g) = omega arith
+held-fits h OutOfRange = h
+
 -- an access gives an interrupt below 11
 fault-below : (x : Translation) → faultOf x < 11
 fault-below NoAccess = omega arith
@@ -130,8 +146,9 @@ pub faulted-fits : (x : Translation) {c : Core} → passes x ≡ false → Fault
 unfolding faulted
 faulted-fits x {c} e f q =
     let n : faultOf x ≡ 0 → ⊥ = eqb-false (faultOf x) 0 e in
-    gives-fits (faultOf x) (omega arith) (fault-below x)
-    (control-fits q (internal-fit (q .control) (q .control .iid) (q .control .iie) (after-fits (q .control .pgs) x f)))
+    let k = q .control in
+    let g = first-fits (c .control .held) (k .pgs) (after-fits (k .pgs) x f) in
+    gives-fits (faultOf x) (omega arith) (fault-below x) (control-fits q (status-fit k g (held-fits (k .held) x)))
 
 -- ---- marks and tests
 

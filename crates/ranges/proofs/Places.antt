@@ -63,3 +63,8 @@ nil-words i = omega arith
 pub cons-words : (x : ℕ) (xs : List ℕ) → x < 65536 → Words xs → Words (x ∷ xs)
 cons-words x xs h w zero = h
 cons-words x xs h w (suc i) = w i
+
+-- .. and words behind others
+pub append-words : (xs ys : List ℕ) → Words xs → Words ys → Words (xs ++ ys)
+append-words [] ys h w = w
+append-words (x ∷ xs) ys h w = cons-words x (xs ++ ys) (h 0) (append-words xs ys (λ i. h (suc i)) w)

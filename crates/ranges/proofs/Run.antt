@@ -30,11 +30,15 @@ pub cleared-sound : (n : ℕ)
     → Sound (stateOf (replicate registerWords 0) (replicate controlCount 0)) (replicate n 0) (replicate tableWords 0)
 unfolding inRange
 cleared-sound n = record {
-  typed =
-      record { regs-length = refl; pcr-length = refl; regs-words = zeros-words 128; control-words = zeros-words 26 };
+  typed = record {
+    regs-length = refl;
+    pcr-length = refl;
+    regs-words = zeros-words registerWords;
+    control-words = zeros-words controlCount;
+  };
   range = refl;
   memory = zeros-words n;
-  tables = zeros-words 256;
+  tables = zeros-words tableWords;
   size = refl;
 }
 

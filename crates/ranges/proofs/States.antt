@@ -1,21 +1,21 @@
 -- A state in range, part by part; it is what the types and the test `inRange` say together.
 -- Assumes nothing.
-use Rattle.isa.specs.Machine.{levelCount, registerWords}
+use Rattle.isa.specs.Machine.{levelCount, registerWords, controlOf}
 use Prim.Native.Nat.{ℕ, zero, suc, _*_, _/_, _%_, _<_, _≤_}
 use native.Mathlib.Omega.{arith}
 use native.Mathlib.Decide.{decLt, ℕ-discrete}
 use mathlib.Core.Path.{_≡_, refl, subst}
 use mathlib.Core.Bool.{Bool, true, _&&_}
-use mathlib.Core.List.{List, [], _∷_}
+use mathlib.Core.List.{List, [], _∷_, _++_}
 use lib.ListN.{getD, length, List·getD-eq-default}
 use lib.Dec.{ltb, eqb}
 use borrow.Author.Tests.{ltb-true, eqb-true, lt-ltb, eq-eqb}
 use Rattle.isa.specs.Machine.{Words, Typed, inRange, controlInRange, interruptBits, pcrBits, allPcrBits, flagsFit}
-use Rattle.isa.specs.Machine.{controlWords}
+use Rattle.isa.specs.Machine.{addedWords, controlWords}
 use Rattle.isa.specs.declared.machine.Control.{Control}
 use Rattle.isa.specs.declared.machine.State.{State}
 use Rattle.isa.proofs.Tests.{and-left, and-right, and-both}
-use Rattle.ranges.proofs.Places.{Each, cons-words}
+use Rattle.ranges.proofs.Places.{Each, nil-words, cons-words, append-words}
 use Rattle.ranges.proofs.Files.{Fits}
 use Rattle.ranges.proofs.Control.{InterruptFits, PcrFits, ControlFits}
 
@@ -24,7 +24,7 @@ pub record StateFits (s : State) : Type 0 where
   pub level : s .level < levelCount
   pub regs-length : length (s .regs) ≡ registerWords
   pub regs : Each Fits (s .regs)
-  pub control : ControlFits (s .control)
+  pub control : ControlFits (controlOf s)
   pub pcr-length : length (s .pcr) ≡ levelCount
   pub pcr : Each (λ i. PcrFits) (s .pcr)
 
@@ -83,6 +83,7 @@ control-range k h d e g = record {
   iid = interrupt-bits (k .iid) (search (and-left, and-right));
   iie = interrupt-bits (k .iie) (search (and-left, and-right));
   pgs = record { clear = eqb-true (k .pgs / 256 % 64) 0 (search (and-left, and-right)); word = g };
+  held = ltb-true (k .held) 2 (search (and-left, and-right));
 }
 
 -- four tests that all pass; the last is long to compute
@@ -98,12 +99,12 @@ four a b c d h = (
 pub state-fits : (s : State) → Typed s → inRange s ≡ true → StateFits s
 unfolding inRange
 state-fits s t h =
-    let q = four (ltb (s .level) 16) (controlInRange (s .control)) (allPcrBits (s .pcr)) (flagsFit 16 (s .regs)) h in
+    let q = four (ltb (s .level) 16) (controlInRange (controlOf s)) (allPcrBits (s .pcr)) (flagsFit 16 (s .regs)) h in
     record {
       level = ltb-true (s .level) 16 (q .0);
       regs-length = t .regs-length;
       regs = regs-each (s .regs) (t .regs-length) (t .regs-words) (q .3);
-      control = control-range (s .control) (q .1) (t .control-words 4) (t .control-words 5) (t .control-words 9);
+      control = control-range (controlOf s) (q .1) (t .control-words 4) (t .control-words 5) (t .control-words 9);
       pcr-length = t .pcr-length;
       pcr = pcrs-each (s .pcr) (q .2);
     }
@@ -140,7 +141,7 @@ control-test k h =
     (lt-ltb (k .pvl) 16 (h .pvl)))
     (interrupt-test (k .iid) (h .iid)))
     (interrupt-test (k .iie) (h .iie)))
-    (eq-eqb (k .pgs / 256 % 64) 0 (h .pgs .clear))
+    (and-both (eq-eqb (k .pgs / 256 % 64) 0 (h .pgs .clear)) (lt-ltb (k .held) 2 (h .held)))
 
 -- four tests together
 all-four : (a b c d : Bool) → a ≡ true → b ≡ true → c ≡ true → d ≡ true → (a && b && c && d) ≡ true
@@ -150,9 +151,9 @@ all-four a b c d h i j k = and-both (and-both (and-both h i) j) k
 pub state-range : (s : State) → StateFits s → inRange s ≡ true
 unfolding inRange
 state-range s h =
-    all-four (ltb (s .level) 16) (controlInRange (s .control)) (allPcrBits (s .pcr)) (flagsFit 16 (s .regs))
+    all-four (ltb (s .level) 16) (controlInRange (controlOf s)) (allPcrBits (s .pcr)) (flagsFit 16 (s .regs))
     (lt-ltb (s .level) 16 (h .level))
-    (control-test (s .control) (h .control))
+    (control-test (controlOf s) (h .control))
     (pcrs-test (s .pcr) (h .pcr))
     (flags-test 16 (s .regs) (h .regs))
 
@@ -168,6 +169,14 @@ first {x} {n} {xs} h k r = let l : x < 65536 = omega arith in record { at = cons
 pcr-row : (ps : List ℕ) → Each (λ i. PcrFits) ps → Row ps
 pcr-row ps h = record { at = λ i. omega (arith, h i .low) }
 
+-- the words behind the PCRs
+added-row : {k : Control} → ControlFits k → Row (addedWords k)
+added-row h = first (h .held) (omega arith) (record { at = nil-words })
+
+-- the PCRs, and the words behind them
+last-row : (ps : List ℕ) {k : Control} → Each (λ i. PcrFits) ps → ControlFits k → Row (ps ++ addedWords k)
+last-row ps {k} h f = record { at = append-words ps (addedWords k) (pcr-row ps h .at) (added-row f .at) }
+
 -- all of them
 control-row : (s : State) → StateFits s → Row (controlWords s)
 control-row s h =
@@ -180,7 +189,8 @@ control-row s h =
     (first (k .pie) (omega arith)
     (first (k .pvl) (omega arith)
     (first (k .iid .low) (omega arith)
-    (first (k .iie .low) (omega arith) (first (k .pgs .word) (omega arith) (pcr-row (s .pcr) (h .pcr)))))))))))
+    (first (k .iie .low) (omega arith)
+    (first (k .pgs .word) (omega arith) (last-row (s .pcr) (h .pcr) k))))))))))
 
 -- the state has its types
 pub state-typed : (s : State) → StateFits s → Typed s

@@ -8,16 +8,21 @@ use native.Mathlib.Omega.{arith}
 use native.Mathlib.Nat.{div-add-mod'}
 use lib.ListN.{drop, length, replicate, length-append, length-replicate, drop-of-length-le}
 use lib.Seq.{paste, take-at, drop-at}
-use Rattle.isa.specs.Machine.{controlWords}
+use Rattle.isa.specs.Machine.{stateWords, controlWords}
 use Rattle.isa.specs.Images.{ImageEntry, entryCount, contents, bodies, placed, loadedWords, imageOf}
 use Rattle.isa.specs.declared.machine.State.{State}
+use Rattle.isa.proofs.ControlWords.{control-length}
+
+-- the words of the bodies beside memory
+abbrev pub bodyWords : ℕ
+bodyWords = stateWords + tableWords
 
 -- a full entry of a kind
 abbrev pub full : ℕ → ℕ → ImageEntry
 full k n = record { kind = k; start = 0; count = n }
 
 abbrev pub four : ℕ → List ImageEntry
-four n = full 1 n ∷ full 2 128 ∷ full 3 26 ∷ full 4 256 ∷ []
+four n = full 1 n ∷ full 2 registerWords ∷ full 3 controlCount ∷ full 4 tableWords ∷ []
 
 -- a body that fills its target replaces it
 fill : (n : ℕ) (target xs rest : List ℕ) → length target ≡ n → length xs ≡ n → paste target 0 (xs ++ rest) n ≡ xs
@@ -48,18 +53,15 @@ module _ (s : State) (m t : List ℕ) where
 
   module _ (hr : length (s .regs) ≡ registerWords) (hp : length (s .pcr) ≡ levelCount)
       (ht : length t ≡ tableWords) where
-    control-length : length (controlWords s) ≡ controlCount
-    control-length = omega (arith, hp)
-
-    pub bodies-length : length (m ++ afterMemory) ≡ length m + 410
+    pub bodies-length : length (m ++ afterMemory) ≡ length m + bodyWords
     bodies-length =
         length-append m afterMemory
         ∙ ap (λ (x : ℕ). length m + x) (length-append (s .regs) (controlWords s ++ t))
         ∙ ap (λ (x : ℕ). length m + (length (s .regs) + x)) (length-append (controlWords s) t)
         ∙ e
       where
-        e : length m + (length (s .regs) + (length (controlWords s) + length t)) ≡ length m + 410
-        e = omega (arith, hr, control-length, ht)
+        e : length m + (length (s .regs) + (length (controlWords s) + length t)) ≡ length m + bodyWords
+        e = omega (arith, hr, control-length s hp, ht)
 
     -- what the entries of the four leave of a target of each kind
     by-four : (k size : ℕ) → loadedWords k size (imageOf s m t)
@@ -72,11 +74,13 @@ module _ (s : State) (m t : List ℕ) where
     dropped-memory : drop (length m) (m ++ afterMemory) ≡ afterMemory
     dropped-memory = drop-at m afterMemory (length m) refl
 
-    dropped-registers : drop 128 (drop (length m) (m ++ afterMemory)) ≡ controlWords s ++ t
-    dropped-registers = ap (drop 128) dropped-memory ∙ drop-at (s .regs) (controlWords s ++ t) 128 hr
+    dropped-registers : drop registerWords (drop (length m) (m ++ afterMemory)) ≡ controlWords s ++ t
+    dropped-registers =
+        ap (drop registerWords) dropped-memory ∙ drop-at (s .regs) (controlWords s ++ t) registerWords hr
 
-    dropped-control : drop 26 (drop 128 (drop (length m) (m ++ afterMemory))) ≡ t
-    dropped-control = ap (drop 26) dropped-registers ∙ drop-at (controlWords s) t 26 control-length
+    dropped-control : drop controlCount (drop registerWords (drop (length m) (m ++ afterMemory))) ≡ t
+    dropped-control =
+        ap (drop controlCount) dropped-registers ∙ drop-at (controlWords s) t controlCount (control-length s hp)
 
     pub loaded-memory : loadedWords 1 (length m) (imageOf s m t) ≡ m
     loaded-memory =
@@ -90,12 +94,12 @@ module _ (s : State) (m t : List ℕ) where
         ∙ fill registerWords (replicate registerWords 0) (s .regs) (controlWords s ++ t)
         (length-replicate {A = ℕ} registerWords 0) hr
 
-    pub loaded-control : loadedWords 3 26 (imageOf s m t) ≡ controlWords s
+    pub loaded-control : loadedWords 3 controlCount (imageOf s m t) ≡ controlWords s
     loaded-control =
-        by-four 3 26
+        by-four 3 controlCount
         ∙ ap (λ (b : List ℕ). paste (replicate controlCount 0) 0 b controlCount) dropped-registers
         ∙ fill controlCount (replicate controlCount 0) (controlWords s) t
-        (length-replicate {A = ℕ} controlCount 0) control-length
+        (length-replicate {A = ℕ} controlCount 0) (control-length s hp)
 
     pub loaded-tables : loadedWords 4 256 (imageOf s m t) ≡ t
     loaded-tables =

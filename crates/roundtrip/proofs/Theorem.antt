@@ -1,6 +1,6 @@
 -- Write, then load: the same machine. And the order of load's refusals.
 -- Assumes nothing.
-use Rattle.isa.specs.Machine.{tableWords}
+use Rattle.isa.specs.Machine.{controlCount, tableWords}
 use Prim.Native.Nat.{ℕ, _+_, _≤_}
 use mathlib.Core.Path.{_≡_, refl, sym, ap, _∙_}
 use mathlib.Core.Bool.{true}
@@ -19,9 +19,11 @@ use Rattle.isa.specs.declared.machine.State.{State}
 use Rattle.isa.specs.declared.answer.Answer.{Answer}
 use Rattle.isa.specs.declared.answer.Answer.the-variants.{Done, Refused}
 use Rattle.isa.proofs.Tests.{and-both, and-right}
+use Rattle.isa.proofs.ControlWords.{state-of-words}
 use Rattle.roundtrip.specs.Statement.{Machine, Loads, RoundTrip, LoadOrder, Either, machine, refusal}
-use Rattle.roundtrip.proofs.Contents.{four, afterMemory, entry-count, contents-four, bodies-all, bodies-length}
-use Rattle.roundtrip.proofs.Contents.{loaded-memory, loaded-registers, loaded-control, loaded-tables}
+use Rattle.roundtrip.proofs.Contents.{bodyWords, four, afterMemory, entry-count, contents-four, bodies-all}
+use Rattle.roundtrip.proofs.Contents.{bodies-length, loaded-memory, loaded-registers, loaded-control}
+use Rattle.roundtrip.proofs.Contents.{loaded-tables}
 
 -- ---- the order of load's refusals
 
@@ -75,10 +77,11 @@ module _ (s : State) (m t : List ℕ) (h : Machine s m t) where
 
   loaded-state : loadedState (imageOf s m t) ≡ s
   loaded-state =
-      ap (λ (rs : List ℕ). stateOf rs (loadedWords 3 26 (imageOf s m t)))
+      ap (λ (rs : List ℕ). stateOf rs (loadedWords 3 controlCount (imageOf s m t)))
       (loaded-registers s m t (h .typed .regs-length) (h .typed .pcr-length) tables-length)
       ∙ ap (λ (cs : List ℕ). stateOf (s .regs) cs)
       (loaded-control s m t (h .typed .regs-length) (h .typed .pcr-length) tables-length)
+      ∙ state-of-words s (h .typed .pcr-length)
 
   named-all : eqb (namedWords (contents (imageOf s m t))) (length (bodies (imageOf s m t))) ≡ true
   named-all =
@@ -88,7 +91,7 @@ module _ (s : State) (m t : List ℕ) (h : Machine s m t) where
       ∙ sym (ap length (bodies-all s m t)
       ∙ bodies-length s m t (h .typed .regs-length) (h .typed .pcr-length) tables-length))
     where
-      q : namedWords (four (length m)) ≡ length m + 410
+      q : namedWords (four (length m)) ≡ length m + bodyWords
       q = omega arith
 
   -- as much memory as the image has

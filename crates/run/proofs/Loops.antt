@@ -6,7 +6,7 @@ use mathlib.Core.Bool.{Bool, true, false, cond, not, _&&_}
 use mathlib.Core.List.{List}
 use native.Mathlib.Omega.{arith}
 use lib.Dec.{eqb}
-use Rattle.isa.specs.Machine.{levelCount, pack}
+use Rattle.isa.specs.Machine.{levelCount, pack, controlOf}
 use Rattle.isa.specs.Step.{Turn, turn, step, isStopped}
 use Rattle.isa.specs.Run.{ended, runFrom}
 use Rattle.isa.proofs.Runs.{run-stopped}
@@ -50,17 +50,17 @@ stopped-step s m t h = rw h
 
 -- before a step
 level-run : (first : Bool) (n k : ℕ) (s : State) (m t : List ℕ) → isStopped s ≡ false
-    → (first && dueAt (s .level) (s .control)) ≡ true
+    → (first && dueAt (s .level) (controlOf s)) ≡ true
     → runFrom first n k s m t ≡ ended Level k s m t
 level-run first zero k s m t x d = rw (x, ap (first &&_) (due-pack s) ∙ d)
 level-run first (suc n) k s m t x d = rw (x, ap (first &&_) (due-pack s) ∙ d)
 
 rest-run : (first : Bool) (k : ℕ) (s : State) (m t : List ℕ)
-    → runFrom first 0 k s m t ≡ ended (reasonAtRest first (s .level) (s .control)) k s m t
+    → runFrom first 0 k s m t ≡ ended (reasonAtRest first (s .level) (controlOf s)) k s m t
 rest-run first k s m t =
     ap (λ (b : Bool). cond (isStopped s) (ended Stopped k s m t) (cond b (ended Level k s m t) (ended Spent k s m t)))
     (ap (first &&_) (due-pack s))
-    ∙ go (isStopped s) (first && dueAt (s .level) (s .control))
+    ∙ go (isStopped s) (first && dueAt (s .level) (controlOf s))
   where
     go : (x y : Bool) → cond x (ended Stopped k s m t) (cond y (ended Level k s m t) (ended Spent k s m t))
         ≡ ended (cond x Stopped (cond y Level Spent)) k s m t
@@ -85,14 +85,14 @@ module _ {first : Bool} {n : ℕ} {s : State} {m t : List ℕ} {k : ℕ} {r : Tu
         e ∙ stopped-step s m t (ap (λ (y : Turn). isStopped (y .state)) (sym e) ∙ x),
   )
 
-  pub ends-level : isStopped (r .state) ≡ false → (first && dueAt (r .state .level) (r .state .control)) ≡ true
+  pub ends-level : isStopped (r .state) ≡ false → (first && dueAt (r .state .level) (controlOf (r .state))) ≡ true
       → Ended first n s m t Level k r
   ends-level x d = (
     sym (level-run first (n - k) k (r .state) (r .memory) (r .tables) x d) ∙ sym (g .total),
-    λ o f. absurd (not-through first (dueAt (r .state .level) (r .state .control)) d f),
+    λ o f. absurd (not-through first (dueAt (r .state .level) (controlOf (r .state))) d f),
   )
 
-  pub ends-at-rest : n ≤ k → Ended first n s m t (reasonAtRest first (r .state .level) (r .state .control)) k r
+  pub ends-at-rest : n ≤ k → Ended first n s m t (reasonAtRest first (r .state .level) (controlOf (r .state))) k r
   ends-at-rest h =
       let e : n - k ≡ 0 = omega (arith, h, g .most) in (
         sym (rest-run first k (r .state) (r .memory) (r .tables))
@@ -105,7 +105,7 @@ module _ {first : Bool} {n : ℕ} {s : State} {m t : List ℕ} {k : ℕ} {r : Tu
   module _ (a : Advanced) (q : Turn) (h : k < n) (b : a .before < n - k)
       (v : Advance (r .state) (r .memory) (r .tables) (n - k) a q)
       (o : a .before ≡ 0 → step (r .state) (r .memory) (r .tables) ≡ q)
-      (d : (first && dueAt (r .state .level) (r .state .control)) ≡ false) where
+      (d : (first && dueAt (r .state .level) (controlOf (r .state))) ≡ false) where
     behind : runFrom first n 0 s m t ≡ goesOn first (n - k) k (a .before) q
     behind = g .total ∙ v first k d
 

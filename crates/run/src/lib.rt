@@ -16,8 +16,8 @@ use levels::put_back;
 mod machine;
 pub mod step;
 
-// What a run leaves beside lent words: the running level and the control words 1 to 9, the steps taken, the interrupt
-// that the last of them gave, or 0 (promised of a run of one step), and why the run ended.
+// What a run leaves beside lent words: the running level and the control words 1 to 9 and 26, the steps taken, the
+// interrupt that the last of them gave, or 0 (promised of a run of one step), and why the run ended.
 pub struct RunEnd {
     pub level: u16,
     pub control: Control,

@@ -5,7 +5,7 @@ use mathlib.Core.Path.{_≡_, refl, ap, _∙_}
 use mathlib.Core.Bool.{Bool, true, false, _&&_}
 use mathlib.Core.List.{List}
 use native.Mathlib.Omega.{arith}
-use Rattle.isa.specs.Machine.{pack, coreOf}
+use Rattle.isa.specs.Machine.{pack, coreOf, controlOf}
 use Rattle.isa.specs.Step.{Part, turn, farStage, settled, step, stepIn, isStopped, changeDue}
 use Rattle.isa.specs.Run.{runFrom}
 use Rattle.isa.proofs.Packing.{open-pack, pack-pack}
@@ -20,7 +20,7 @@ use Rattle.levels.proofs.Changes.{due-pack}
 use Rattle.run_level.specs.Bursts.{Levels, Executes, leaves, goesOn}
 
 -- where no change of level is due, a run to the first interrupt goes on as a run through does
-pub no-change : (first : Bool) (s : State) → dueAt (s .level) (s .control) ≡ false → (first && changeDue s) ≡ false
+pub no-change : (first : Bool) (s : State) → dueAt (s .level) (controlOf s) ≡ false → (first && changeDue s) ≡ false
 no-change true s h = due-pack s ∙ h
 no-change false s h = refl
 

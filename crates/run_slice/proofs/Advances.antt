@@ -5,7 +5,7 @@ use mathlib.Core.Path.{_≡_, refl, sym, ap, _∙_}
 use mathlib.Core.Bool.{true, false}
 use mathlib.Core.List.{List}
 use native.Mathlib.Omega.{arith}
-use Rattle.isa.specs.Machine.{levelCount, pack}
+use Rattle.isa.specs.Machine.{levelCount, pack, controlOf}
 use Rattle.isa.specs.Step.{Turn, turn, step, isStopped, levelChanged}
 use Rattle.isa.specs.declared.machine.Core.{Core}
 use Rattle.isa.specs.declared.machine.State.{State}
@@ -24,7 +24,7 @@ Answered s m t n a r =
 
 pub advance-change : (s : State) (m t : List ℕ) (n : ℕ) (a : Advanced) (regs pcrs : List ℕ) → 0 < n
     → isStopped s ≡ false
-    → dueAt (s .level) (s .control) ≡ true → (a .level < levelCount) × (a .before ≡ 0)
+    → dueAt (s .level) (controlOf s) ≡ true → (a .level < levelCount) × (a .before ≡ 0)
     → advancedTurn a regs pcrs m t ≡ turn (levelChanged s) 0 m t → Answered s m t n a (advancedTurn a regs pcrs m t)
 advance-change s m t n a regs pcrs h x d (l, z) e =
     let same : step s m t ≡ advancedTurn a regs pcrs m t = level-step s m t x d ∙ sym e in (

@@ -25,6 +25,8 @@ use isa::instruction::System;
 use isa::machine::Core;
 use isa::machine::Register;
 use paging::place::fault_of;
+use paging::place::first_status;
+use paging::place::held_after;
 use paging::place::pgs_after;
 use paging::place::store_at;
 use paging::place::word_at;
@@ -41,12 +43,13 @@ fn left(c: Core, gave: u16, far: Far) -> Near
     }
 }
 
-// A failed access: 2 and 3 set PGS.
+// A failed access: 2 and 3 set PGS and hold it, unless it is held.
 pub fn faulted(x: Translation, c: Core) -> Core
     ensures { λ d. ⌜ d ≡ faulted x c ⌝ }
 {
     let mut k = c.control;
-    k.pgs = pgs_after(k.pgs, x);
+    k.pgs = first_status(k.held, k.pgs, pgs_after(k.pgs, x));
+    k.held = held_after(k.held, x);
     gives(fault_of(x), c.with_control(k))
 }
 

@@ -76,11 +76,11 @@ fn end_of(w: Reason, k: u64, s: State) -> End
 fn cleared() -> State
     ensures { λ r. ⌜ r ≡ clearedState ⌝ }
 {
-    State {
-        regs: [0; REGISTER_WORDS],
-        level: 0,
-        control: Control {
+    State::with(
+        0,
+        Control {
             interrupts: 0,
+            held: 0,
             paging: 0,
             stopped: 0,
             pid: 0,
@@ -90,8 +90,9 @@ fn cleared() -> State
             iie: 0,
             pgs: 0,
         },
-        pcr: [0; LEVEL_COUNT],
-    }
+        [0; REGISTER_WORDS],
+        [0; LEVEL_COUNT],
+    )
 }
 
 // At most 1,000 steps from a state.

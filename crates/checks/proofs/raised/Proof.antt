@@ -8,7 +8,7 @@ use Rattle.checks.proofs.raised.Tie as tie
 -- a device's level is below 16
 with-bit-requires : tie.Need-with-bit-requires
 with-bit-requires c κs =
-    let start = c .before .before .before in
+    let start = c .before .before .before .before in
     (device-level (start .args .l) (start .pre), omega arith)
 
 returns : tie.Need-returns

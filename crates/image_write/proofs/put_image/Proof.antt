@@ -6,6 +6,7 @@ use mathlib.Core.Path.{_≡_, refl, sym, _∙_}
 use native.Mathlib.Omega.{arith}
 use lib.ListN.{length, length-map, length-append}
 use borrow.Author.Needs.{needs}
+use Rattle.isa.proofs.ControlWords.{control-length}
 use Rattle.image_write.proofs.Written.{image-put}
 use Rattle.isa.specs.Machine.{controlWords}
 use Rattle.image_write.proofs.put_image.Statement.{statement}
@@ -40,7 +41,7 @@ returns c =
     let e : length (s .regs) ≡ registerWords = sym (length-map (s .regs) _) ∙ start .good .0 .1 .1 .0 .1 .0 .1 in
     let g : length (s .pcr) ≡ levelCount = sym (length-map (s .pcr) _) ∙ start .good .0 .1 .1 .1 .1 .1 .0 .1 .0 .1 in
     let w : length (s .regs ++ controlWords s) ≡ stateWords =
-    length-append (s .regs) (controlWords s) ∙ omega (arith, e, g) in
+    length-append (s .regs) (controlWords s) ∙ omega (arith, e, control-length s g) in
     image-put s (start .args .mem .now) (start .args .tables .now) (start .args .out .now)
     (at-put-memory .put-memory .last .1 .0) (at-put-state .put-state .last .1 .0) (at-copy .copy .last .0)
     (length (start .args .mem .now)) refl w (start .pre .1 .0) (at-put-memory .put-memory .ensures)

@@ -2,12 +2,14 @@
 -- Assumes nothing.
 use Prim.Native.Nat.{ℕ, _+_}
 use mathlib.Core.Path.{_≡_, sym, ap, _∙_}
-use mathlib.Core.List.{List}
+use mathlib.Core.List.{List, []}
 use native.Mathlib.Omega.{arith}
 use lib.ListN.{length, length-map}
 use lib.Seq.{paste}
 use borrow.Author.Needs.{needs}
-use Rattle.isa.specs.Machine.{levelCount, registerWords, controlCount, controlWords}
+use Rattle.isa.specs.Machine.{levelCount, registerWords, controlCount, controlWords, stateWith}
+use Rattle.isa.specs.declared.machine.Control.{Control}
+use Rattle.isa.proofs.ControlWords.{control-length}
 use Rattle.image_write.proofs.Joined.{paste-join}
 use Rattle.image_write.proofs.put_state.Statement.{statement}
 use Rattle.image_write.proofs.put_state.Tie as tie
@@ -18,6 +20,9 @@ regs-long k = sym (length-map (k .args .s .regs) _) ∙ k .good .0 .1 .1 .0 .1 .
 
 pcrs-long : (k : tie.Start) → length (k .args .s .pcr) ≡ levelCount
 pcrs-long k = sym (length-map (k .args .s .pcr) _) ∙ k .good .0 .1 .1 .1 .1 .1 .0 .1 .0 .1
+
+control-words-requires : tie.Need-control-words-requires
+control-words-requires c κs = search needs
 
 slice-aggregate-copy : tie.Need-slice-aggregate-copy
 slice-aggregate-copy c = search needs
@@ -44,21 +49,25 @@ same-length c = search needs
 returns : tie.Need-returns
 returns c =
     let second = c .before .before in
-    let back = second .before .before .before .before in
-    let first = back .before in
-    let lent = first .before .before .before .before in
-    let start = lent .before .before .before in
+    let lent = second .before .before .before in
+    let first = lent .before .before in
+    let made = first .before .before .before .before in
+    let start = made .before .before .before in
     let a = start .args in
     let s = a .s in
+    let place = a .at + registerWords in
+    let words : Control → List ℕ = λ k. controlWords (stateWith (s .level) k [] (s .pcr)) in
     second .put-control .ensures
-    ∙ ap (λ (x : List ℕ). paste x (a .at + registerWords) (controlWords s) controlCount) (first .copy .ensures)
+    ∙ ap (λ (k : Control). paste (first .copy .last .0) place (words k) controlCount) (made .control-words .ensures)
+    ∙ ap (λ (x : List ℕ). paste x place (controlWords s) controlCount) (first .copy .ensures)
     ∙ paste-join (a .out .now) (s .regs) (controlWords s) (a .at) registerWords controlCount (omega (arith, start .pre))
-    (regs-long start) (omega (arith, pcrs-long start))
+    (regs-long start) (control-length s (pcrs-long start))
 
 pub put-state-spec : {M : Type 1} → statement M
 put-state-spec =
     tie.close
     (tie.spec
+    control-words-requires
     slice-aggregate-copy
     copy-requires
     slice-aggregate-put-control

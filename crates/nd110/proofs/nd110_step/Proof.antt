@@ -6,7 +6,7 @@ use mathlib.Core.List.{List, [], _∷_}
 use native.Mathlib.Omega.{arith}
 use lib.ListN.{length, take, drop, length-drop}
 use lib.Seq.{length-take-le, take-all}
-use Rattle.isa.specs.Machine.{registerWords, stateOf}
+use Rattle.isa.specs.Machine.{registerWords, controlOf, stateOf}
 use Rattle.nd110.proofs.Laws.{called-badly, step-on-words}
 use borrow.Author.Needs.{needs}
 use Rattle.nd110.proofs.nd110_step.Statement.{statement}
@@ -107,7 +107,7 @@ returns-2 c =
     let rest : take (length w - registerWords) (drop registerWords w) ≡ drop registerWords w =
     take-all (length w - registerWords) (drop registerWords w) (simp length-drop (omega arith)) in
     step-on-words w (a .mem .now) (a .tables .now) (a .interrupt .now ∷ []) _ _ _ _ _ _ _ _ long
-    (control .control-of .ensures ∙ ap (λ (l : List ℕ). stateOf [] l .control) rest)
+    (control .control-of .ensures ∙ ap (λ (l : List ℕ). controlOf (stateOf [] l)) rest)
     (pcrs .pcrs-of .ensures ∙ ap (λ (l : List ℕ). stateOf [] l .pcr) rest)
     (done .step .kept .1 .1 .0 ∙ length-take-le registerWords w (omega (arith, long)))
     (done .step .ensures) (told .tell-step .ensures _ _)

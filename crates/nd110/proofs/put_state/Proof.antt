@@ -5,6 +5,7 @@ use mathlib.Core.Path.{_≡_, sym, _∙_}
 use native.Mathlib.Omega.{arith}
 use lib.ListN.{length, length-map, length-append}
 use Rattle.isa.specs.Machine.{controlWords}
+use Rattle.isa.proofs.ControlWords.{control-length}
 use Rattle.image_load.proofs.Placed.{copied-rest}
 use Rattle.nd110.specs.Calls.{stateOrdered}
 use borrow.Author.Needs.{needs}
@@ -25,7 +26,7 @@ returns c =
     let regs : length (s .regs) ≡ registerWords = sym (length-map (s .regs) _) ∙ k .good .0 .1 .1 .0 .1 .0 .1 in
     let pcrs : length (s .pcr) ≡ levelCount = sym (length-map (s .pcr) _) ∙ k .good .0 .1 .1 .1 .1 .1 .0 .1 .0 .1 in
     let all : length (stateOrdered s) ≡ stateWords =
-    length-append (s .regs) (controlWords s) ∙ omega (arith, regs, pcrs) in
+    length-append (s .regs) (controlWords s) ∙ omega (arith, regs, control-length s pcrs) in
     putting .put-state .ensures ∙ copied-rest 0 stateWords (stateOrdered s) (k .args .words .now) all (k .pre)
 
 pub put-state-spec : {M : Type 1} → statement M

@@ -1,15 +1,16 @@
 -- By the number: the control words behind the registers, or nothing.
 -- Assumes nothing.
 use Prim.Native.Nat.{ℕ}
-use mathlib.Core.Path.{_≡_, sym, ap, _∙_}
+use mathlib.Core.Path.{sym, ap, _∙_}
 use mathlib.Core.Bool.{Bool, cond}
-use mathlib.Core.List.{List, [], _∷_}
-use native.Mathlib.Omega.{arith}
+use mathlib.Core.List.{[], _∷_}
 use lib.ListN.{take}
 use borrow.Author.Needs.{needs}
 use borrow.Author.Tests.{eq-eqb, ne-eqb}
 use Rattle.isa.specs.Machine.{registerWords, controlCount, stateWith, controlWords}
 use Rattle.isa.specs.Answers.{interruptGiven}
+use Rattle.isa.specs.declared.machine.State.{State}
+use Rattle.isa.proofs.ControlWords.{control-length}
 use Rattle.nd110.specs.Calls.{leftOf}
 use Rattle.nd110.proofs.Laws.{ended-refused, ended-done, put-behind}
 use Rattle.nd110.proofs.tell_step.Statement.{statement}
@@ -51,9 +52,9 @@ returns-2 c = λ m t.
     let given = told .ensures .1
     ∙ ap (λ (b : Bool). cond b (interruptGiven (a .r .answer)) (a .interrupt .now))
     (eq-eqb _ 0 (sym (told .ensures .0) ∙ left .if1 .left)) in
+    let s : State = stateWith (a .r .level) (a .r .control) [] (a .pcrs .now) in
     let words = stored .put-control .ensures
-    ∙ put-behind w (controlWords (stateWith (a .r .level) (a .r .control) [] (a .pcrs .now))) registerWords controlCount
-    (start .pre .1) (omega (arith, start .pre .0)) in
+    ∙ put-behind w (controlWords s) registerWords controlCount (start .pre .1) (control-length s (start .pre .0)) in
     ended-done _ _ (stateWith (a .r .level) (a .r .control) (take registerWords w) (a .pcrs .now)) m t _ _ _
     (told .ensures .0) _ _ (left .if1 .left) words (ap (λ (n : ℕ). n ∷ []) given)
 

@@ -1,4 +1,4 @@
--- TRA IIC clears IID, the others nothing.
+-- TRA IIC clears IID, TRA PGS releases PGS, the others change nothing.
 -- Assumes nothing.
 use borrow.Author.Needs.{needs}
 use Rattle.control.proofs.internal.after_reading.Statement.{statement}
@@ -9,6 +9,9 @@ enum-told c = search needs
 
 enum-told-2 : tie.Need-enum-told-2
 enum-told-2 c = search needs
+
+released-requires : tie.Need-released-requires
+released-requires c κs = search needs
 
 enum-told-3 : tie.Need-enum-told-3
 enum-told-3 c = search needs
@@ -31,8 +34,9 @@ enum-told-7 c = search needs
 returns : tie.Need-returns
 returns c = search needs
 
+-- Pgs
 returns-2 : tie.Need-returns-2
-returns-2 c = search needs
+returns-2 c = simp (c .released .ensures, c .before .enum-told2 .given .1)
 
 returns-3 : tie.Need-returns-3
 returns-3 c = search needs
@@ -56,6 +60,7 @@ after-reading-spec =
     (tie.spec
     enum-told
     enum-told-2
+    released-requires
     enum-told-3
     enum-told-4
     without-interrupts-requires

@@ -1,5 +1,6 @@
--- Control words 1 to 9, and the PCRs.
+-- The control words beside the level, and the PCRs.
 -- Assumes nothing.
+use mathlib.Core.Path.{_∙_}
 use lib.ListN.{getD}
 use borrow.Author.Needs.{needs}
 use Rattle.isa.specs.Machine.{stateWith}
@@ -18,14 +19,19 @@ slice-aggregate-pcrs-of c = search needs
 pcrs-of-requires : tie.Need-pcrs-of-requires
 pcrs-of-requires c κs = search needs
 
-array-read-t12 : tie.Need-array-read-t12
-array-read-t12 c = search needs
+array-read-with : tie.Need-array-read-with
+array-read-with c = search needs
+
+with-requires : tie.Need-with-requires
+with-requires c κs = search needs
 
 returns : tie.Need-returns
 returns c =
-    let control = c .before .before in
+    let pcrs = c .before in
+    let control = pcrs .before .before in
     let a = control .before .before .args in
-    λ i. stateWith (getD (a .t2) 0 0) (control .control-of .ensures i) (a .regs) (c .pcrs-of .ensures i)
+    c .with .ensures
+    ∙ (λ i. stateWith (getD (a .t2) 0 0) (control .control-of .ensures i) (a .regs) (pcrs .pcrs-of .ensures i))
 
 pub state-of-spec : {M : Type 1} → statement M
 state-of-spec =
@@ -35,5 +41,6 @@ state-of-spec =
     control-of-requires
     slice-aggregate-pcrs-of
     pcrs-of-requires
-    array-read-t12
+    array-read-with
+    with-requires
     returns)

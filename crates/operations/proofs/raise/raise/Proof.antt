@@ -5,16 +5,30 @@ use Rattle.isa.specs.Answers.{stateAnswer, levelAnswer, raiseCallBy, raiseCall}
 use Rattle.isa.specs.declared.answer.Answer.{Answer}
 use Rattle.isa.specs.declared.answer.Answer.the-variants.{Done}
 use Rattle.isa.specs.declared.machine.State.{State}
+use Rattle.isa.proofs.Packing.{parts-state}
 use Rattle.operations.proofs.Laws.{device-of, raise-told}
 use borrow.Author.Needs.{needs}
 use Rattle.operations.proofs.raise.raise.Statement.{statement}
 use Rattle.operations.proofs.raise.raise.Tie as tie
 
--- where the state's answer was asked for: before it the function's start
+-- where the state's answer was asked for: before it the control words, and the function's start
+abbrev controlled : tie.After-parts-answer → tie.After-control-words
+controlled c = let lent = c .before .before .before .before in lent .before .before
+
 abbrev started : tie.After-parts-answer → tie.Start
-started c =
-    let lent = c .before .before .before .before in
-    let known = lent .before .before .before .before in known .before
+started c = controlled c .before .before .before
+
+-- the state's answer, by its parts
+state-answered : (c : tie.After-parts-answer)
+    → let a = started c .args in c .parts-answer .result ≡ stateAnswer (a .t1) (a .mem .now) (a .tables .now)
+state-answered c =
+    let a = started c .args in
+    c .parts-answer .ensures
+    ∙ ap (λ (s : State). stateAnswer s (a .mem .now) (a .tables .now))
+    (parts-state (a .t1) (controlled c .control-words .ensures))
+
+control-words-requires : tie.Need-control-words-requires
+control-words-requires c κs = search needs
 
 parts-answer-requires : tie.Need-parts-answer-requires
 parts-answer-requires c κs = search needs
@@ -44,7 +58,7 @@ returns c =
     let done : Done ≡ levelAnswer (a .level) (stateAnswer (a .t1) (a .mem .now) (a .tables .now)) =
     sym (c .before .enum-told .given .1)
     ∙ asked .level-answer .ensures
-    ∙ ap (levelAnswer (a .level)) (asked .before .parts-answer .ensures) in
+    ∙ ap (levelAnswer (a .level)) (state-answered (asked .before)) in
     raise-told (a .t1) (a .level) (a .mem .now) (a .tables .now) _
     (ap (λ (s : State). record { answer = Done; state = s }) (c .raised .ensures)
     ∙ ap (λ (x : Answer). raiseCallBy x (a .t1) (a .level)) done)
@@ -59,12 +73,13 @@ returns-2 c =
     (ap (λ (x : Answer). raiseCallBy x (a .t1) (a .level))
     (sym (c .before .a .given .1)
     ∙ asked .level-answer .ensures
-    ∙ ap (levelAnswer (a .level)) (asked .before .parts-answer .ensures)))
+    ∙ ap (levelAnswer (a .level)) (state-answered (asked .before))))
 
 pub raise-spec : {M : Type 1} → statement M
 raise-spec =
     tie.close
     (tie.spec
+    control-words-requires
     parts-answer-requires
     level-answer-requires
     enum-told
