@@ -2,7 +2,7 @@
 
 use nd110::{Refusal, State as Words};
 use second::vectors::Start;
-use second::{Interrupt, Reason, State};
+use second::{Interrupt, REGISTER_WORDS, Reason, State};
 
 /// The same machine twice: ours in the library's words, the other in the second engine's.
 pub struct Both {
@@ -43,9 +43,10 @@ impl Both {
     /// Words that differ, ours first.
     pub fn differing(&self) -> Vec<String> {
         let theirs = self.theirs.state.to_words();
+        let (registers, control) = self.ours.0.split_at(REGISTER_WORDS);
         let kinds = [
-            ("register", &self.ours.0[..128], &theirs[..128]),
-            ("control word", &self.ours.0[128..], &theirs[128..]),
+            ("register", registers, &theirs[..REGISTER_WORDS]),
+            ("control word", control, &theirs[REGISTER_WORDS..]),
             ("page table word", &self.our_tables, &self.theirs.tables),
             ("memory word", &self.our_memory, &self.theirs.memory),
         ];

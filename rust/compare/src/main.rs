@@ -6,8 +6,9 @@ mod report;
 
 use compare::engines::{Answers, Both};
 use report::Taken;
+use second::CONTROL_WORDS;
 use second::random::Random;
-use second::vectors::Start;
+use second::vectors::{Start, older_image};
 use std::process::ExitCode;
 use std::time::{Duration, Instant};
 
@@ -161,10 +162,13 @@ impl Tally {
         image.truncate(image.len() - 3);
         for _ in 0..random.below(3) {
             let at = random.below(24) as usize;
-            image[at] = random.pick(&[0, 1, 2, 3, 4, 5, 26, 128, 256, 0o177777]);
+            let control = CONTROL_WORDS as u16;
+            image[at] = random.pick(&[0, 1, 2, 3, 4, 5, control - 1, control, 128, 256, 0o177777]);
         }
         let answers = both.load(&image);
         self.note("load", answers, &both);
+        let answers = both.load(&older_image(start));
+        self.note("load of an older image", answers, &both);
     }
 }
 

@@ -2,7 +2,7 @@
 
 use second::random::Random;
 use second::vectors::{self, Start};
-use second::{PAGE, Reg, next_word};
+use second::{CONTROL_WORDS, PAGE, REGISTER_WORDS, Reg, next_word};
 
 /// Instruction words of every kind: those that the generator of one-step cases has fetched.
 pub fn pool(random: &mut Random) -> Vec<u16> {
@@ -95,10 +95,10 @@ fn window(random: &mut Random, start: &mut Start) {
 pub fn damage(random: &mut Random, start: &mut Start) {
     let mut words = start.state.to_words();
     let at = match random.below(3) {
-        0 => 8 * random.below(16),
-        _ => 128 + random.below(26),
+        0 => 8 * random.below(16) as usize,
+        _ => REGISTER_WORDS + random.below(CONTROL_WORDS as u64) as usize,
     };
-    words[at as usize] = match random.below(2) {
+    words[at] = match random.below(2) {
         0 => random.word(),
         _ => 1 << random.below(16),
     };

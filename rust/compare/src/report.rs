@@ -2,7 +2,7 @@
 
 use compare::engines::{Answers, Both};
 use second::vectors::Start;
-use second::{PAGE, State, disassemble, next_word};
+use second::{PAGE, REGISTER_WORDS, State, disassemble, next_word};
 
 /// Steps of both from here: a call of the step or of the lent step, or a run of so many.
 #[derive(Clone, Copy)]
@@ -88,7 +88,8 @@ fn zero_blocks(words: &mut [u16], block: usize, mut keep: impl FnMut(&[u16]) -> 
 /// An image that names the words that are not 0, in at most 32 entries.
 fn image(start: &Start) -> Vec<u16> {
     let words = start.state.to_words();
-    let kinds = [&start.memory, &words[..128], &words[128..], &start.tables];
+    let (registers, control) = words.split_at(REGISTER_WORDS);
+    let kinds = [&start.memory, registers, control, &start.tables];
     let mut gap = 0;
     loop {
         let mut entries: Vec<(u16, usize, usize)> = Vec::new();

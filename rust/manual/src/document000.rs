@@ -98,7 +98,7 @@ pub const EXAMPLES: &[Example] = &[
     row("3.8", "STA ,B", 0o004400,
         &[(PON, 1), (LEVEL, 1), (pcr(1), 0o2601), (of(1, STS), 1), (of(1, P), 0o40100), (of(1, B), 0o30000),
           (Table(0o220), 0o161000), (Table(0o314), 0o162001)],
-        &[(Interrupt, 2), (IID, 0o4), (PGS, 0o314), (Table(0o220), 0o165000)]),
+        &[(Interrupt, 2), (IID, 0o4), (PGS, 0o314), (HELD, 1), (Table(0o220), 0o165000)]),
 
     // The teletype's routine, but for the device.
     row("6.5.2", "SAA 4", 0o170404, &[], &[(A, 4)]),

@@ -19,8 +19,14 @@ use std::fmt;
 /// Where an example's instructions stand in memory.
 pub const HERE: u16 = 0o100;
 
+/// Registers of all levels, and control words: the order is that of an image.
+const REGISTERS: usize = 128;
+const CONTROL: usize = 27;
+const STATE: usize = REGISTERS + CONTROL;
+const TABLES: usize = 256;
+
 const P: usize = 2;
-const LEVEL: usize = 128;
+const LEVEL: usize = REGISTERS;
 
 /// One of the words that an example names.
 #[derive(Clone, Copy, Debug)]
@@ -86,8 +92,8 @@ pub fn examples() -> impl Iterator<Item = &'static Example> {
 /// A machine in the words that all engines know.
 #[derive(Clone, Debug)]
 pub struct Machine {
-    /// 128 registers and 26 control words in image order.
-    pub state: [u16; 154],
+    /// Registers and control words in image order.
+    pub state: [u16; STATE],
     pub tables: Vec<u16>,
     pub memory: Vec<u16>,
     /// What the last step gave.
@@ -98,8 +104,8 @@ impl Machine {
     /// Level 0 with interrupts and paging off, and 32 pages of memory. Flags and control words are 0, every level is to
     /// go on at `HERE`, and every other word tells its index.
     fn new() -> Machine {
-        let mut state = [0; 154];
-        for (index, word) in (0..).zip(&mut state[..128]) {
+        let mut state = [0; STATE];
+        for (index, word) in (0..).zip(&mut state[..REGISTERS]) {
             *word = match index % 8 {
                 0 => 0,
                 2 => HERE,
@@ -108,7 +114,7 @@ impl Machine {
         }
         Machine {
             state,
-            tables: (0o020000..).take(256).collect(),
+            tables: (0o020000..).take(TABLES).collect(),
             memory: (0o100000..=0o177777).collect(),
             interrupt: 0,
         }
@@ -133,13 +139,15 @@ impl Machine {
 
 /// What a word of `Machine::words` is.
 fn name(index: usize) -> String {
-    const REGISTERS: [&str; 8] = ["STS", "D", "P", "B", "L", "A", "T", "X"];
+    const NAMES: [&str; 8] = ["STS", "D", "P", "B", "L", "A", "T", "X"];
+    const FIRST_TABLE: usize = STATE + 1;
+    const FIRST_MEMORY: usize = FIRST_TABLE + TABLES;
     match index {
-        0..128 => format!("{} of level {}", REGISTERS[index % 8], index / 8),
-        128..154 => format!("control word {}", index - 128),
-        154 => "the interrupt".to_string(),
-        155..411 => format!("page table word {:03o}", index - 155),
-        _ => format!("memory word {:06o}", index - 411),
+        0..REGISTERS => format!("{} of level {}", NAMES[index % 8], index / 8),
+        REGISTERS..STATE => format!("control word {}", index - REGISTERS),
+        STATE => "the interrupt".to_string(),
+        FIRST_TABLE..FIRST_MEMORY => format!("page table word {:03o}", index - FIRST_TABLE),
+        _ => format!("memory word {:06o}", index - FIRST_MEMORY),
     }
 }
 

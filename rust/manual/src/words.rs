@@ -21,6 +21,8 @@ pub const PVL: Place = State(134);
 pub const IID: Place = State(135);
 pub const IIE: Place = State(136);
 pub const PGS: Place = State(137);
+/// 1 while PGS holds a fault that was not read (document 02, card 3).
+pub const HELD: Place = State(154);
 
 /// A register of another level.
 pub const fn of(level: usize, register: Place) -> Place {

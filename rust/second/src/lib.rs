@@ -30,7 +30,7 @@ pub use decode::{
 };
 pub use disasm::disassemble;
 pub use image::{IMAGE_EXTRA, Target, load, view, view_number, write};
-pub use state::{CONTROL_WORDS, REGISTER_WORDS, STATE_WORDS, State, flag};
+pub use state::{CONTROL_WORDS, REGISTER_WORDS, STATE_WORDS, State, control, flag};
 pub use step::{next_word, raise, run, step};
 
 /// Words in a page.

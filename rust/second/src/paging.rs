@@ -41,7 +41,7 @@ pub(crate) enum Place {
 }
 
 impl Machine<'_> {
-    /// Tests and marks one access. A failed one sets PGS (2 and 3 only).
+    /// Tests and marks one access. A failed one is reported to PGS (2 and 3 only).
     #[cfg_attr(not(feature = "inlined"), inline)]
     #[cfg_attr(feature = "inlined", inline(always))]
     pub fn access(
@@ -79,16 +79,16 @@ impl Machine<'_> {
             _ => index,
         };
         if entry & (WRITE | READ | FETCH) == 0 {
-            self.state.pgs = status | PGS_PERMIT;
+            self.state.report_fault(status | PGS_PERMIT);
             return Err(Interrupt::PageFault);
         }
         if entry & needed == 0 {
-            self.state.pgs = status | PGS_PERMIT;
+            self.state.report_fault(status | PGS_PERMIT);
             return Err(Interrupt::Protect);
         }
         let entry_ring = entry >> 9 & 3;
         if entry_ring > ring {
-            self.state.pgs = status;
+            self.state.report_fault(status);
             return Err(Interrupt::Protect);
         }
         let physical = usize::from(entry & 0o777) * PAGE + usize::from(address) % PAGE;

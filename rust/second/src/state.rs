@@ -14,8 +14,47 @@ pub mod flag {
     pub const M: u16 = 1 << 7;
 }
 
+/// Control words by number, in image order.
+pub mod control {
+    pub const LEVEL: usize = 0;
+    pub const INTERRUPTS_ON: usize = 1;
+    pub const PAGING_ON: usize = 2;
+    pub const STOPPED: usize = 3;
+    pub const PID: usize = 4;
+    pub const PIE: usize = 5;
+    pub const PVL: usize = 6;
+    pub const IID: usize = 7;
+    pub const IIE: usize = 8;
+    pub const PGS: usize = 9;
+    /// PCR of level 0; those of the other levels follow.
+    pub const PCR: usize = 10;
+    pub const PGS_HELD: usize = PCR + 16;
+    /// How many there are.
+    pub const WORDS: usize = PGS_HELD + 1;
+
+    /// The name of a control word, as `PID` or `PCR(3)`.
+    pub fn name(number: usize) -> String {
+        let name = match number {
+            LEVEL => "LEVEL",
+            INTERRUPTS_ON => "ION",
+            PAGING_ON => "PON",
+            STOPPED => "STOPPED",
+            PID => "PID",
+            PIE => "PIE",
+            PVL => "PVL",
+            IID => "IID",
+            IIE => "IIE",
+            PGS => "PGS",
+            PCR..PGS_HELD => return format!("PCR({})", number - PCR),
+            PGS_HELD => "HELD",
+            _ => return format!("control word {number}"),
+        };
+        name.to_string()
+    }
+}
+
 pub const REGISTER_WORDS: usize = 128;
-pub const CONTROL_WORDS: usize = 26;
+pub const CONTROL_WORDS: usize = control::WORDS;
 pub const STATE_WORDS: usize = REGISTER_WORDS + CONTROL_WORDS;
 
 /// Bits in use: IID and IIE 1 to 10; PCR 0-1, 7-8, 9-10; PGS 15, 14, 7-0.
@@ -40,6 +79,8 @@ pub struct State {
     pub iie: u16,
     pub pgs: u16,
     pub pcr: [u16; 16],
+    /// 1 while PGS holds a fault that no TRA PGS has read.
+    pub pgs_held: u16,
 }
 
 impl State {
@@ -47,47 +88,43 @@ impl State {
         State::default()
     }
 
-    /// All words in image order: 128 registers, then 26 control words.
+    /// All words in image order: the registers, then the control words.
     pub fn to_words(&self) -> [u16; STATE_WORDS] {
         let mut words = [0; STATE_WORDS];
-        for (level, file) in self.files.iter().enumerate() {
-            words[8 * level..8 * level + 8].copy_from_slice(file);
-        }
-        let control = [
-            self.level,
-            self.interrupts_on,
-            self.paging_on,
-            self.stopped,
-            self.pid,
-            self.pie,
-            self.pvl,
-            self.iid,
-            self.iie,
-            self.pgs,
-        ];
-        words[128..138].copy_from_slice(&control);
-        words[138..].copy_from_slice(&self.pcr);
+        let (files, control) = words.split_at_mut(REGISTER_WORDS);
+        files.copy_from_slice(self.files.as_flattened());
+        control[control::LEVEL] = self.level;
+        control[control::INTERRUPTS_ON] = self.interrupts_on;
+        control[control::PAGING_ON] = self.paging_on;
+        control[control::STOPPED] = self.stopped;
+        control[control::PID] = self.pid;
+        control[control::PIE] = self.pie;
+        control[control::PVL] = self.pvl;
+        control[control::IID] = self.iid;
+        control[control::IIE] = self.iie;
+        control[control::PGS] = self.pgs;
+        control[control::PCR..][..16].copy_from_slice(&self.pcr);
+        control[control::PGS_HELD] = self.pgs_held;
         words
     }
 
     /// The state of words in image order, in range or not.
     pub fn from_words(words: &[u16; STATE_WORDS]) -> State {
         let mut state = State::new();
-        for (level, file) in state.files.iter_mut().enumerate() {
-            file.copy_from_slice(&words[8 * level..8 * level + 8]);
-        }
-        let control = &words[128..];
-        state.level = control[0];
-        state.interrupts_on = control[1];
-        state.paging_on = control[2];
-        state.stopped = control[3];
-        state.pid = control[4];
-        state.pie = control[5];
-        state.pvl = control[6];
-        state.iid = control[7];
-        state.iie = control[8];
-        state.pgs = control[9];
-        state.pcr.copy_from_slice(&control[10..]);
+        let (files, control) = words.split_at(REGISTER_WORDS);
+        state.files.as_flattened_mut().copy_from_slice(files);
+        state.level = control[control::LEVEL];
+        state.interrupts_on = control[control::INTERRUPTS_ON];
+        state.paging_on = control[control::PAGING_ON];
+        state.stopped = control[control::STOPPED];
+        state.pid = control[control::PID];
+        state.pie = control[control::PIE];
+        state.pvl = control[control::PVL];
+        state.iid = control[control::IID];
+        state.iie = control[control::IIE];
+        state.pgs = control[control::PGS];
+        state.pcr.copy_from_slice(&control[control::PCR..][..16]);
+        state.pgs_held = control[control::PGS_HELD];
         state
     }
 
@@ -103,6 +140,7 @@ impl State {
             && self.iie & !INTERNAL_BITS == 0
             && self.pgs & !PGS_BITS == 0
             && self.pcr.iter().all(|pcr| pcr & !PCR_BITS == 0)
+            && self.pgs_held <= 1
     }
 
     /// Register of the running level.
@@ -129,6 +167,22 @@ impl State {
     #[cfg_attr(feature = "inlined", inline(always))]
     pub(crate) fn change_due(&self) -> bool {
         self.interrupts_on != 0 && self.highest_level() != self.level
+    }
+
+    /// A fault of interrupt 2 or 3 for PGS, which keeps the first one until it is read.
+    #[cfg_attr(feature = "inlined", inline(always))]
+    pub(crate) fn report_fault(&mut self, status: u16) {
+        if self.pgs_held == 0 {
+            self.pgs = status;
+            self.pgs_held = 1;
+        }
+    }
+
+    /// PGS as TRA PGS reads it: from now on it takes another fault.
+    #[cfg_attr(feature = "inlined", inline(always))]
+    pub(crate) fn read_pgs(&mut self) -> u16 {
+        self.pgs_held = 0;
+        self.pgs
     }
 
     /// Records an internal interrupt.

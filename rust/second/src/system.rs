@@ -115,7 +115,10 @@ impl Machine<'_> {
                     | sts;
                 self.set(Reg::A, word);
             }
-            Transfer::TraPgs => self.set(Reg::A, self.state.pgs),
+            Transfer::TraPgs => {
+                let status = state.read_pgs();
+                self.set(Reg::A, status);
+            }
             Transfer::TraPvl => self.set(Reg::A, 0o153602 + 0o10 * self.state.pvl),
             Transfer::TraIic => {
                 let number = match state.iid {

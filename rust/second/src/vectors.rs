@@ -2,11 +2,14 @@
 
 use crate::answer::Interrupt;
 use crate::decode::{Instr, Reg, decode};
+use crate::image::{IMAGE_EXTRA, write};
 use crate::random::Random;
-use crate::state::{INTERNAL_BITS, PCR_BITS, PGS_BITS, State};
+use crate::state::{
+    CONTROL_WORDS, INTERNAL_BITS, PCR_BITS, PGS_BITS, REGISTER_WORDS, STATE_WORDS, State, control,
+};
 use crate::step::step;
 use crate::{PAGE, TABLE_WORDS};
-use std::fmt::Write;
+use std::fmt::Write as _;
 
 /// A start: state in range, memory and page tables.
 #[derive(Clone, Debug, PartialEq, Eq)]
@@ -243,6 +246,8 @@ fn control(random: &mut Random, state: &mut State) {
     state.iid = random.pick(&[0, words[0] & INTERNAL_BITS]);
     state.iie = random.pick(&[0, INTERNAL_BITS, words[1] & INTERNAL_BITS]);
     state.pgs = random.pick(&[0, words[2] & PGS_BITS]);
+    // By a bit that PGS has not: held or not, whatever it is.
+    state.pgs_held = words[2] >> 8 & 1;
     for pcr in &mut state.pcr {
         if random.one_in(4) {
             *pcr = random.word() & PCR_BITS;
@@ -359,6 +364,25 @@ fn put_by(start: &mut Start, address: u16, table: u16, word: u16) {
     }
 }
 
+/// The image that the writer makes of a start.
+pub fn image(start: &Start) -> Vec<u16> {
+    let mut image = vec![0; start.memory.len() + IMAGE_EXTRA];
+    write(&start.state, &start.memory, &start.tables, &mut image)
+        .expect("a start is in range and the image fits");
+    image
+}
+
+/// The same as it was written before PGS was held: the control words end with the PCRs.
+pub fn older_image(start: &Start) -> Vec<u16> {
+    let mut image = image(start);
+    // The third entry's length, low word.
+    image[15] = control::PGS_HELD as u16;
+    let bodies = image.len() - start.memory.len() - STATE_WORDS - TABLE_WORDS;
+    let words = bodies + start.memory.len() + REGISTER_WORDS;
+    image.drain(words + control::PGS_HELD..words + CONTROL_WORDS);
+    image
+}
+
 /// One case in the line format of `NOTES.md`: the start, then what one step
 /// makes of it.
 pub fn case_text(number: u64, start: &Start) -> String {
@@ -371,8 +395,9 @@ pub fn case_text(number: u64, start: &Start) -> String {
     let mut text = String::new();
     let words = start.state.to_words();
     let _ = writeln!(text, "case {number} pages {}", start.memory.len() / PAGE);
-    sparse(&mut text, "reg", &words[..128], &[0; 128]);
-    sparse(&mut text, "ctl", &words[128..], &[0; 26]);
+    let (registers, control) = words.split_at(REGISTER_WORDS);
+    sparse(&mut text, "reg", registers, &[0; REGISTER_WORDS]);
+    sparse(&mut text, "ctl", control, &[0; CONTROL_WORDS]);
     sparse(
         &mut text,
         "mem",
@@ -382,8 +407,8 @@ pub fn case_text(number: u64, start: &Start) -> String {
     sparse(&mut text, "tab", &start.tables, &[0; TABLE_WORDS]);
     let _ = writeln!(text, "int {interrupt}");
     let words = end.state.to_words();
-    full(&mut text, "reg=", &words[..128]);
-    full(&mut text, "ctl=", &words[128..]);
+    full(&mut text, "reg=", &words[..REGISTER_WORDS]);
+    full(&mut text, "ctl=", &words[REGISTER_WORDS..]);
     sparse(&mut text, "mem+", &end.memory, &start.memory);
     sparse(&mut text, "tab+", &end.tables, &start.tables);
     text.push_str("end\n");

@@ -29,6 +29,8 @@ fn vectors_reach_everything() {
             seen.insert("level".into());
             continue;
         }
+        let held = (s.pgs_held, end.state.pgs_held);
+        seen.insert(format!("held {held:?} by {number}"));
         let Some(word) = word else {
             assert_eq!(end.memory, begin.memory);
             seen.insert(format!("fetch {number}"));
@@ -78,6 +80,13 @@ fn vectors_reach_everything() {
     }
     wanted.push("window write, paging false".into());
     wanted.push("window write, paging true".into());
+    // A fault taken and one not, TRA PGS, and 9 with PGS held and not.
+    for held in ["(0, 1) by 2", "(0, 1) by 3", "(1, 1) by 2", "(1, 1) by 3"] {
+        wanted.push(format!("held {held}"));
+    }
+    for held in ["(1, 0) by 0", "(0, 0) by 9", "(1, 1) by 9", "(1, 1) by 6"] {
+        wanted.push(format!("held {held}"));
+    }
     wanted.push("lowered 0".into());
     wanted.push("lowered 6".into());
     let ops = "Stz Sta Stt Stx Std Ldd Stf Ldf Min Lda Ldt Ldx Add Sub And Ora Mpy Jmp Jpl";

@@ -167,6 +167,46 @@ fn turn_prints_the_running_level() {
     assert_eq!(turn(&input), expected);
 }
 
+/// Faults twice, reads PGS, faults and reads again. Page 1 has no permit, page
+/// 2 none to write; B is 002000 and X 004000. More entries come first.
+fn faulting(entries: &[u16], bodies: &[u16]) -> Vec<u8> {
+    let mut image = vec![6 + entries.len() as u16 / 5];
+    image.extend(entries);
+    image.extend([
+        1, 0, 0, 0, 7, // the program
+        2, 0, 3, 0, 1, // B
+        2, 0, 7, 0, 1, // X
+        3, 0, 2, 0, 1, // paging on
+        3, 0, 10, 0, 1, // PCR of level 0: ring 2
+        4, 0, 0, 0, 3, // entries of pages 0 to 2
+    ]);
+    image.extend(bodies);
+    // STA ,X; LDA ,B; TRA PGS; COPY SA DT; LDA ,B; TRA PGS; WAIT.
+    image.extend([
+        0o006000, 0o044400, 0o150003, 0o146156, 0o044400, 0o150003, 0o151000,
+    ]);
+    image.extend([0o002000, 0o004000, 1, 2, 0o162000, 0o002001, 0o062002]);
+    bytes(&image)
+}
+
+#[test]
+fn turn_reads_the_first_fault() {
+    // 2 by the store in page 2, then 3 in page 1: T has the first. Then 3 in
+    // page 1 again: A has it.
+    let expected = "ended stopped\nsteps 7\nlevel 0\nSTS 000000\nD 000000\nP 000007\n\
+                    B 002000\nL 000000\nA 040001\nT 040002\nX 004000\n";
+    assert_eq!(turn(&faulting(&[], &[])), expected);
+    // PGS 100123, not held: the same. Held: it is what T has.
+    let pgs = [3, 0, 9, 0, 1, 3, 0, 26, 0, 1];
+    assert_eq!(turn(&faulting(&pgs, &[0o100123, 0])), expected);
+    let first = expected.replace("T 040002", "T 100123");
+    assert_eq!(turn(&faulting(&pgs, &[0o100123, 1])), first);
+    assert_eq!(turn(&faulting(&pgs, &[0o100123, 2])), "refused 2\n");
+    // The control words end with word 26.
+    assert_eq!(turn(&faulting(&[3, 0, 27, 0, 0], &[])), expected);
+    assert_eq!(turn(&faulting(&[3, 0, 27, 0, 1], &[0])), "refused 6\n");
+}
+
 #[test]
 fn turn_refuses() {
     assert_eq!(turn(&[]), "refused 4\n");

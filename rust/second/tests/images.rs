@@ -63,6 +63,96 @@ fn load_control_words_in_order() {
     assert_eq!((state.iid, state.iie, state.pgs), (0o10, 0o20, 0o40));
     assert_eq!(state.pcr[..5], [0, 1, 2, 3, 0o200]);
     assert_eq!(state.pcr[15], 3);
+    assert_eq!(state.pgs_held, 0); // not named
+    // Control word 26: whether PGS is held.
+    image[5] = 27;
+    image.push(1);
+    let held = try_load(&image).0.expect("loads");
+    assert_eq!(held.pgs_held, 1);
+    assert_eq!(held.to_words()[128 + 26], 1);
+    assert_eq!(
+        State {
+            pgs_held: 0,
+            ..held
+        },
+        state
+    );
+}
+
+/// An image of kind 3 entries (start, length), their words 0 but the last.
+fn control_words(entries: &[(u16, u16)], last: u16) -> Vec<u16> {
+    let mut image = vec![entries.len() as u16];
+    for &(start, length) in entries {
+        image.extend([3, 0, start, 0, length]);
+    }
+    let words: u16 = entries.iter().map(|entry| entry.1).sum();
+    image.extend((1..=words).map(|word| if word == words { last } else { 0 }));
+    image
+}
+
+#[test]
+fn load_about_the_last_control_word() {
+    // Named or not: 0 if it is not, whatever was lent.
+    for (entries, held) in [
+        (&[(0, 26)][..], 0),
+        (&[(0, 27)], 1),
+        (&[(26, 1)], 1),
+        (&[(25, 2)], 1),
+        (&[(0, 26), (26, 1)], 1),
+        (&[(26, 0), (27, 0), (26, 1)], 1),
+        (&[(26, 1), (0, 26)], 0), // its word is the first, the last is PCR 15's
+    ] {
+        let state = try_load(&control_words(entries, 1)).0.expect("loads");
+        assert_eq!(state.pgs_held, held, "{entries:?}");
+    }
+    // 27 words there are.
+    for entries in [
+        &[(0, 28)][..],
+        &[(26, 2)],
+        &[(27, 1)],
+        &[(28, 0)],
+        &[(26, 1), (26, 2)],
+    ] {
+        refused(&control_words(entries, 1), Refusal::Beyond);
+    }
+    for entries in [
+        &[(0, 27), (26, 1)][..],
+        &[(26, 1), (26, 1)],
+        &[(26, 1), (25, 2)],
+        &[(26, 1), (0, 27)],
+    ] {
+        refused(&control_words(entries, 1), Refusal::Twice);
+    }
+    // 0 and 1 whatever PGS is; 2 and more are refused, after the bodies.
+    for held in [0, 1] {
+        for pgs in [0, 0o140377] {
+            let image = [2, 3, 0, 26, 0, 1, 3, 0, 9, 0, 1, held, pgs];
+            let state = try_load(&image).0.expect("loads");
+            assert_eq!((state.pgs, state.pgs_held), (pgs, held));
+        }
+    }
+    for held in [2, 3, 0o100001, 0o177777] {
+        refused(&[1, 3, 0, 26, 0, 1, held], Refusal::State);
+        refused(&control_words(&[(0, 27)], held), Refusal::State);
+        refused(&[1, 3, 0, 26, 0, 1, held, 0], Refusal::Bodies);
+    }
+}
+
+#[test]
+fn images_of_twenty_six_control_words() {
+    let mut random = Random::new(26);
+    let mut held = 0;
+    for _ in 0..100 {
+        let mut start = second::vectors::start(&mut random);
+        let image = second::vectors::older_image(&start);
+        assert_eq!(image[11..16], [3, 0, 0, 0, 26]);
+        assert_eq!(image.len(), start.memory.len() + 431);
+        let state = load(&image, &mut start.memory.clone(), &mut start.tables.clone());
+        held += start.state.pgs_held;
+        start.state.pgs_held = 0;
+        assert_eq!(state, Ok(start.state));
+    }
+    assert!(held > 20);
 }
 
 #[test]
@@ -90,8 +180,8 @@ fn load_refuses_contents() {
 fn load_refuses_entries() {
     refused(&[1, 0, 0, 0, 0, 0], Refusal::Kind);
     refused(&[1, 5, 0, 0, 0, 0], Refusal::Kind);
-    // Sizes: 2,048 words of memory here, 128, 26, 256.
-    for (kind, size) in [(1, 2048), (2, 128), (3, 26), (4, 256)] {
+    // Sizes: 2,048 words of memory here, 128, 27, 256.
+    for (kind, size) in [(1, 2048), (2, 128), (3, 27), (4, 256)] {
         refused(&[1, kind, 0, size, 0, 1, 0], Refusal::Beyond);
         refused(&[1, kind, 0, 0, 0, size + 1, 0], Refusal::Beyond);
         refused(&[1, kind, 1, 0, 0, 0], Refusal::Beyond);
@@ -202,6 +292,9 @@ fn out_of_range() -> Vec<State> {
     for bit in [2, 3, 4, 5, 6, 11, 12, 13, 14, 15] {
         add(140, 1 << bit); // PCR
     }
+    for held in [2, 3, 0o100000, 0o177777] {
+        add(154, held); // whether PGS is held
+    }
     states
 }
 
@@ -221,7 +314,7 @@ fn states_out_of_range() {
         assert_eq!(s, state);
         // A view does not look at the state; load finds it in the image.
         let words = state.to_words();
-        let mut image = vec![2, 2, 0, 0, 0, 128, 3, 0, 0, 0, 26];
+        let mut image = vec![2, 2, 0, 0, 0, 128, 3, 0, 0, 0, 27];
         image.extend(words);
         refused(&image, Refusal::State);
     }
@@ -234,6 +327,7 @@ fn states_out_of_range() {
     words[128..138].copy_from_slice(&[
         15, 1, 1, 1, 0o177777, 0o177777, 15, 0o3776, 0o3776, 0o140377,
     ]);
+    words[154] = 1;
     assert!(State::from_words(&words).in_range());
 }
 
@@ -280,31 +374,38 @@ fn writes() {
     case.m.truncate(PAGE);
     case.t[255] = 9;
     case.s.pcr[15] = 3;
-    let mut out = vec![0o55; PAGE + 431 + 2];
-    assert_eq!(write(&case.s, &case.m, &case.t, &mut out), Ok(PAGE + 431));
+    case.s.pgs_held = 1;
+    let mut out = vec![0o55; PAGE + 432 + 2];
+    assert_eq!(write(&case.s, &case.m, &case.t, &mut out), Ok(PAGE + 432));
     assert_eq!(
         out[..21],
         [
-            4, 1, 0, 0, 0, 1024, 2, 0, 0, 0, 128, 3, 0, 0, 0, 26, 4, 0, 0, 0, 256
+            4, 1, 0, 0, 0, 1024, 2, 0, 0, 0, 128, 3, 0, 0, 0, 27, 4, 0, 0, 0, 256
         ]
     );
     assert_eq!(out[21 + 0o100], 0o123); // memory
     assert_eq!(out[21 + 1024 + 5], 5); // A of level 0
     assert_eq!(out[21 + 1024 + 128 + 25], 3); // PCR of level 15
-    assert_eq!(out[21 + 1024 + 128 + 26 + 255], 9); // last table word
-    assert_eq!(out[PAGE + 431..], [0o55, 0o55]);
+    assert_eq!(out[21 + 1024 + 128 + 26], 1); // PGS is held
+    assert_eq!(out[21 + 1024 + 128 + 27 + 255], 9); // last table word
+    assert_eq!(out[PAGE + 432..], [0o55, 0o55]);
+    // Just enough; and not held.
+    case.s.pgs_held = 0;
+    let mut out = vec![0o55; PAGE + 432];
+    assert_eq!(write(&case.s, &case.m, &case.t, &mut out), Ok(PAGE + 432));
+    assert_eq!(out[21 + 1024 + 128 + 26], 0);
     // One word short: 10, and nothing is written.
-    let mut out = vec![0o55; PAGE + 430];
+    let mut out = vec![0o55; PAGE + 431];
     assert_eq!(
         write(&case.s, &case.m, &case.t, &mut out),
         Err(Refusal::Short)
     );
     assert!(out.iter().all(|&word| word == 0o55));
     // A long memory's length takes both words.
-    let mut out = vec![0; 524_288 + 431];
+    let mut out = vec![0; 524_288 + 432];
     assert_eq!(
         write(&case.s, &vec![0; 524_288], &case.t, &mut out),
-        Ok(524_719)
+        Ok(524_720)
     );
     assert_eq!(out[..6], [4, 1, 0, 0, 8, 0]);
 }

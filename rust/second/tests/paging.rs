@@ -6,6 +6,12 @@ use common::*;
 const PGU: u16 = 0o004000;
 const WIP: u16 = 0o010000;
 
+/// Puts what a fault leaves in PGS: 2 and 3 are held, 9 touches neither word.
+fn status(case: &mut Case, number: u16, pgs: u16) {
+    case.s.pgs = pgs;
+    case.s.pgs_held = u16::from(number != 9);
+}
+
 /// Expects that nothing changed but what `change` makes of the start.
 fn only(start: Case, number: u16, change: impl Fn(&mut Case)) {
     let after = start.clone().gives(number);
@@ -30,7 +36,7 @@ fn fetch_faults_leave_p() {
     ] {
         let mut case = Case::paged(0o170401, 1).table(0, entry);
         case.s.pgs = 0o123;
-        only(case, number, |case| case.s.pgs = pgs);
+        only(case, number, |case| status(case, number, pgs));
     }
 }
 
@@ -40,7 +46,7 @@ fn fetch_fault_names_table_and_page() {
     case.s.pcr[0] = 3 << 9 | 2 << 7 | 1;
     case.s.set_reg(STS, 1);
     // Table 3 also with PTM 1; virtual page 31.
-    only(case, 3, |case| case.s.pgs = 0o140337);
+    only(case, 3, |case| status(case, 3, 0o140337));
 }
 
 #[test]
@@ -66,7 +72,7 @@ fn read_faults() {
         let mut case = Case::paged(0o044400, 1).with(B, 0o2000).table(1, entry);
         case.s.pgs = 0o123;
         only(case, number, |case| {
-            case.s.pgs = pgs;
+            status(case, number, pgs);
             case.s.set_reg(P, 0o101);
             case.t[0] |= PGU;
         });
@@ -88,7 +94,7 @@ fn write_faults() {
             .table(1, entry);
         case.s.pgs = 0o123;
         only(case, number, |case| {
-            case.s.pgs = pgs;
+            status(case, number, pgs);
             case.s.set_reg(P, 0o101);
             case.t[0] |= PGU;
         });
@@ -168,7 +174,7 @@ fn all_accesses_before_the_first_store() {
         .with(A, 5)
         .with(D, 6);
     only(case.table(2, 0o041002), 2, |case| {
-        case.s.pgs = 0o040002;
+        status(case, 2, 0o040002);
         case.s.set_reg(P, 0o101);
         case.t[0] |= PGU;
         case.t[1] |= PGU | WIP;
@@ -179,7 +185,7 @@ fn all_accesses_before_the_first_store() {
         .with(A, 5)
         .with(D, 6);
     only(case.table(1, 0).table(2, 0o100000), 3, |case| {
-        case.s.pgs = 0o040001;
+        status(case, 3, 0o040001);
         case.s.set_reg(P, 0o101);
         case.t[0] |= PGU;
     });
@@ -190,7 +196,7 @@ fn all_accesses_before_the_first_store() {
         .with(A, 5)
         .with(D, 6);
     only(case.table(2, 0), 3, |case| {
-        case.s.pgs = 0o040002;
+        status(case, 3, 0o040002);
         case.s.set_reg(P, 0o101);
         case.t[0] |= PGU;
         case.t[1] |= PGU | WIP;
@@ -200,7 +206,7 @@ fn all_accesses_before_the_first_store() {
         .mem(2046, 1)
         .mem(2047, 2);
     only(case.table(2, 0), 3, |case| {
-        case.s.pgs = 0o040002;
+        status(case, 3, 0o040002);
         case.s.set_reg(P, 0o101);
         case.t[0] |= PGU;
         case.t[1] |= PGU;
@@ -226,14 +232,14 @@ fn min_and_sbyt_read_then_write() {
         // No read permit: PGU is not set.
         let start = case.clone().table(1, 0o101001);
         only(start, 2, |case| {
-            case.s.pgs = 0o040001;
+            status(case, 2, 0o040001);
             case.s.set_reg(P, 0o101);
             case.t[0] |= PGU;
         });
         // No write permit: the read has set PGU. No skip, no store.
         let start = case.table(1, 0o041001);
         only(start, 2, |case| {
-            case.s.pgs = 0o040001;
+            status(case, 2, 0o040001);
             case.s.set_reg(P, 0o101);
             case.t[0] |= PGU;
             case.t[1] |= PGU;
@@ -247,7 +253,7 @@ fn register_blocks_test_all_eight() {
     let mut case = Case::paged(0o152412, 2).with(X, 0o3772).table(2, 0);
     case.s.files[1] = [1, 2, 3, 4, 5, 6, 7, 8];
     only(case, 3, |case| {
-        case.s.pgs = 0o040002;
+        status(case, 3, 0o040002);
         case.s.set_reg(P, 0o101);
         case.t[0] |= PGU;
         case.t[1] |= PGU | WIP;
@@ -258,7 +264,7 @@ fn register_blocks_test_all_eight() {
         .mem(2042, 5)
         .table(2, 0);
     only(case, 3, |case| {
-        case.s.pgs = 0o040002;
+        status(case, 3, 0o040002);
         case.s.set_reg(P, 0o101);
         case.t[0] |= PGU;
         case.t[1] |= PGU;

@@ -48,7 +48,7 @@ fn tra() {
     tra(0o06).has(&[(A, 0o111)]);
     tra(0o07).has(&[(A, 0o222)]);
     tra(0o11).has(&[(A, 1)]); // ACTL
-    // Only IIC changes anything but A and P.
+    // Only IIC changes anything but A and P, as PGS is not held here.
     for number in [1, 3, 4, 6, 7, 0o11, 0o14] {
         let mut case = tra(number);
         case.s.set_reg(A, ALL);

@@ -82,6 +82,31 @@ fn trace_of_an_interrupt() {
     assert_eq!(trace(&["3"], &image), wanted);
 }
 
+/// A store in page 2, which may not be written, then a read in page 1, which has no entry: PGS holds the first until
+/// TRA PGS reads it.
+#[test]
+fn trace_of_two_faults() {
+    let image = [
+        6, // memory 0 to 3; B and X; control words 2 (paging on) and 10 (PCR of level 0: ring 2); pages 0 to 2
+        1, 0, 0, 0, 4, //
+        2, 0, 3, 0, 1, //
+        2, 0, 7, 0, 1, //
+        3, 0, 2, 0, 1, //
+        3, 0, 10, 0, 1, //
+        4, 0, 0, 0, 3, //
+        0o006000, 0o044400, 0o150003, 0o151000, //
+        0o002000, 0o004000, 1, 2, 0o162000, 0o002001, 0o062002,
+    ];
+    let wanted = [
+        "0 000000 006000 STA ,X 0 IID=000004 PGS=040002 HELD=000001 interrupt 2 Protect",
+        "0 000001 044400 LDA ,B 0 IID=000014 interrupt 3 PageFault",
+        "0 000002 150003 TRA PGS A=040002 HELD=000000",
+        "0 000003 151000 WAIT STOPPED=000001",
+    ]
+    .map(|line| line.split(' ').map(str::to_string).collect::<Vec<_>>());
+    assert_eq!(trace(&[], &image), wanted);
+}
+
 #[test]
 fn trace_refuses() {
     fails(TRACE, &[], &[], "refused 4");

@@ -1,8 +1,8 @@
 //! Two programs `turn` on random byte streams, valid and damaged.
 
 use second::random::Random;
-use second::vectors::{instruction, start};
-use second::{IMAGE_EXTRA, write};
+use second::vectors::{image, instruction, older_image, start};
+use second::{CONTROL_WORDS, REGISTER_WORDS, TABLE_WORDS};
 use std::collections::BTreeMap;
 use std::ffi::OsStr;
 use std::io::{self, Write};
@@ -29,10 +29,19 @@ fn machine(random: &mut Random) -> Vec<u16> {
         start.state.paging_on = 0;
         start.memory.fill_with(|| instruction(random));
     }
-    let mut image = vec![0; start.memory.len() + IMAGE_EXTRA];
-    write(&start.state, &start.memory, &start.tables, &mut image)
-        .expect("a start is in range and the image fits");
-    image
+    if random.one_in(4) {
+        older_image(&start)
+    } else {
+        image(&start)
+    }
+}
+
+/// Control words of a random machine, or one word less or more than there are.
+fn control_words(random: &mut Random) -> Vec<u16> {
+    let mut words = start(random).state.to_words()[REGISTER_WORDS..].to_vec();
+    let length = words.len() + 1 - random.below(3) as usize;
+    words.resize(length, 0);
+    words
 }
 
 /// Entries of any kind and place, mostly within their targets, and bodies.
@@ -42,18 +51,25 @@ fn pieces(random: &mut Random) -> Vec<u16> {
         _ => random.below(6),
     };
     let mut image = vec![count as u16];
-    let mut named = 0;
+    let mut bodies = Vec::new();
+    let form = random.below(3);
     for _ in 0..count {
         let kind = match random.below(20) {
             0 => random.pick(&[0, 5, 0o177777]),
             _ => random.pick(&[1, 1, 1, 2, 3, 4]),
         };
+        if kind == 3 && random.one_in(2) {
+            let words = control_words(random);
+            image.extend([kind, 0, 0, 0, words.len() as u16]);
+            bodies.extend(words);
+            continue;
+        }
         let size = match kind {
-            2 => 128,
-            3 => 26,
-            4 => 256,
+            2 => REGISTER_WORDS,
+            3 => CONTROL_WORDS,
+            4 => TABLE_WORDS,
             _ => 16_384,
-        };
+        } as u64;
         let start = random.below(size + 1);
         let length = match random.below(12) {
             0 => size - start,
@@ -68,14 +84,13 @@ fn pieces(random: &mut Random) -> Vec<u16> {
             high[1] as u16,
             length as u16,
         ]);
-        named += length;
+        bodies.extend((0..length).map(|_| match form {
+            0 => 0,
+            1 => instruction(random),
+            _ => random.word() & random.word() & random.word(),
+        }));
     }
-    let first = random.below(3);
-    image.extend((0..named).map(|_| match first {
-        0 => 0,
-        1 => instruction(random),
-        _ => random.word() & random.word() & random.word(),
-    }));
+    image.extend(bodies);
     image
 }
 

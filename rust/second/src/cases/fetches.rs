@@ -81,7 +81,7 @@ fn one(cases: &mut Vec<Case>, case: &Case, steps: &[u64]) {
 
 impl Case {
     /// Words from a virtual address on, by the normal table.
-    fn code(self, at: u16, words: &[u16]) -> Case {
+    pub(super) fn code(self, at: u16, words: &[u16]) -> Case {
         let put = |case: Case, (offset, &word): (u16, &u16)| {
             case.put(at.wrapping_add(offset), false, word)
         };
@@ -89,32 +89,32 @@ impl Case {
     }
 
     /// Words from an offset of a physical page on.
-    fn words(mut self, page: usize, offset: usize, words: &[u16]) -> Case {
+    pub(super) fn words(mut self, page: usize, offset: usize, words: &[u16]) -> Case {
         let at = page * PAGE + offset;
         self.memory[at..at + words.len()].copy_from_slice(words);
         self
     }
 
     /// The entry that an address goes by in the normal table.
-    fn page(self, address: u16, entry: u16) -> Case {
+    pub(super) fn page(self, address: u16, entry: u16) -> Case {
         let index = self.index(address, false);
         self.entry(index, entry)
     }
 
     /// The page of an address is of the user's ring.
-    fn own(self, address: u16) -> Case {
+    pub(super) fn own(self, address: u16) -> Case {
         let ring = self.state.pcr[self.level()] & 3;
         let entry = self.tables[self.index(address, false)];
         self.page(address, entry & !0o3000 | ring << 9)
     }
 
-    fn ptm(self, ptm: u16) -> Case {
+    pub(super) fn ptm(self, ptm: u16) -> Case {
         let sts = self.get(Reg::Sts);
         self.reg(Reg::Sts, sts & !1 | ptm)
     }
 
     /// No interrupt raises level 14.
-    fn quiet(self) -> Case {
+    pub(super) fn quiet(self) -> Case {
         self.with(|state| state.iie = 0)
     }
 }

@@ -2,9 +2,13 @@
 
 use super::{Case, MEMORY, Operation};
 use crate::decode::Reg;
-use crate::image::{IMAGE_EXTRA, Target};
+use crate::image::{IMAGE_EXTRA as EXTRA, Target};
 use crate::random::Random;
+use crate::state::{CONTROL_WORDS, control};
 use crate::{PAGE, TABLE_WORDS};
+
+/// Control words of an image.
+const CONTROL: u32 = CONTROL_WORDS as u32;
 
 pub fn cases() -> Vec<Case> {
     let mut cases = Vec::new();
@@ -18,7 +22,7 @@ pub fn cases() -> Vec<Case> {
 }
 
 /// One of each operation, none of which would be refused otherwise.
-fn operations() -> Vec<Operation> {
+pub fn operations() -> Vec<Operation> {
     vec![
         Operation::Step,
         Operation::Through(2),
@@ -26,7 +30,7 @@ fn operations() -> Vec<Operation> {
         Operation::ToInterrupt(2),
         Operation::Raise(12),
         Operation::Load(vec![1, 2, 0, 9, 0, 1, 0o321]),
-        Operation::Write(MEMORY + IMAGE_EXTRA),
+        Operation::Write(MEMORY + EXTRA),
         Operation::View(Target::Memory, 0, 1),
         Operation::View(Target::Tables, 0, 1),
     ]
@@ -88,7 +92,7 @@ fn sizes(cases: &mut Vec<Case>) {
 
 /// Refusal 2: each word of the state just inside and just outside its range.
 fn states(cases: &mut Vec<Case>) {
-    let ends: [(usize, &[u16]); 10] = [
+    let ends: [(usize, &[u16]); 11] = [
         (0, &[15, 16, 0o100003]),
         (1, &[0, 1, 2, 0o177777]),
         (2, &[0, 1, 2, 0o100000]),
@@ -99,6 +103,7 @@ fn states(cases: &mut Vec<Case>) {
         (7, &[0o3776, 1, 0o4000, 0o100000, 2]),
         (8, &[0o3776, 1, 0o4000, 0o100000, 0]),
         (9, &[0o140377, 0o400, 0o20000, 0o1000, 0o40000]),
+        (control::PGS_HELD, &[0, 1, 2, 0o100001]),
     ];
     let mut words: Vec<(usize, u16)> = Vec::new();
     for (index, values) in ends {
@@ -175,17 +180,18 @@ fn image(entries: &[(u16, u32, u32)]) -> Vec<u16> {
     words
 }
 
-fn load(words: Vec<u16>) -> Case {
+pub fn load(words: Vec<u16>) -> Case {
     Case::new("load", Operation::Load(words))
 }
 
 fn loads(cases: &mut Vec<Case>) {
-    let sound: [&[(u16, u32, u32)]; 14] = [
+    let sound: [&[(u16, u32, u32)]; 15] = [
         &[],
         &[(1, 0, 5)],
         &[(1, 4091, 5)],
         &[(2, 0, 128)],
-        &[(3, 0, 26)],
+        &[(3, 0, CONTROL - 1)],
+        &[(3, 0, CONTROL)],
         &[(4, 0, 256)],
         &[(4, 250, 6), (1, 9, 2), (3, 4, 2), (2, 17, 3)],
         &[(1, 10, 5), (1, 15, 5), (1, 5, 5)],
@@ -195,12 +201,12 @@ fn loads(cases: &mut Vec<Case>) {
             (1, 12, 0),
             (1, 4096, 0),
             (2, 128, 0),
-            (3, 26, 0),
+            (3, CONTROL, 0),
             (4, 256, 0),
         ],
         &[(1, 12, 0), (1, 10, 5)],
         &[(2, 1, 1), (1, 0, 1), (2, 2, 1), (1, 1, 1)],
-        &[(3, 0, 1), (3, 1, 25)],
+        &[(3, 0, 1), (3, 1, CONTROL - 1)],
         &[(4, 0, 1), (4, 2, 1), (4, 1, 1)],
     ];
     for entries in sound {
@@ -263,9 +269,9 @@ fn damaged(cases: &mut Vec<Case>) {
         &[(2, 128, 1)],
         &[(2, 127, 2)],
         &[(2, 129, 0)],
-        &[(3, 26, 1)],
-        &[(3, 25, 2)],
-        &[(3, 27, 0)],
+        &[(3, CONTROL, 1)],
+        &[(3, CONTROL - 1, 2)],
+        &[(3, CONTROL + 1, 0)],
         &[(4, 256, 1)],
         &[(4, 255, 2)],
         &[(4, 257, 0)],
@@ -293,7 +299,7 @@ fn damaged(cases: &mut Vec<Case>) {
         cases.push(load(words));
     }
     for entries in [
-        &[(3, 0, 26), (3, 3, 1)],
+        &[(3, 0, CONTROL), (3, 3, 1)],
         &[(2, 0, 1), (2, 0, 1)],
         &[(4, 9, 1), (4, 9, 1)],
         &[(2, 5, 5), (3, 9, 1)],
@@ -324,16 +330,16 @@ fn damaged(cases: &mut Vec<Case>) {
 
 fn writes(cases: &mut Vec<Case>) {
     for memory in [PAGE, 2 * PAGE, MEMORY] {
-        for extra in [0, 1, 430, 431, 432, 500] {
+        for extra in [0, 1, EXTRA - 1, EXTRA, EXTRA + 1, 500] {
             let case = Case::sized("write", Operation::Write(memory + extra), memory, 256);
             cases.push(case.with(|state| state.pgs = 0o140377));
         }
     }
-    for length in [0, 1, 430, 431, 1024] {
+    for length in [0, 1, EXTRA - 1, EXTRA, 1024] {
         cases.push(Case::new("write", Operation::Write(length)));
     }
     for memory in [PAGE, MEMORY, 65 * PAGE] {
-        for extra in [430, 431, 432] {
+        for extra in [EXTRA - 1, EXTRA, EXTRA + 1] {
             cases.push(Case::sized(
                 "both",
                 Operation::WriteLoad(memory + extra),
@@ -342,7 +348,12 @@ fn writes(cases: &mut Vec<Case>) {
             ));
         }
     }
-    let case = Case::sized("both", Operation::WriteLoad(PAGE + 431), PAGE, TABLE_WORDS);
+    let case = Case::sized(
+        "both",
+        Operation::WriteLoad(PAGE + EXTRA),
+        PAGE,
+        TABLE_WORDS,
+    );
     cases.push(case.with(|state| state.stopped = 2));
 }
 

@@ -3,6 +3,7 @@
 
 mod fetches;
 mod floating;
+mod held;
 mod images;
 mod instructions;
 mod pages;
@@ -13,7 +14,7 @@ mod words;
 use crate::answer::{Interrupt, Reason, Refusal};
 use crate::decode::Reg;
 use crate::image::{Target, load, view, view_number, write};
-use crate::state::{REGISTER_WORDS, STATE_WORDS, State};
+use crate::state::{REGISTER_WORDS, STATE_WORDS, State, control};
 use crate::step::{raise, run, step};
 use crate::{PAGE, TABLE_WORDS};
 use std::fmt::Write;
@@ -28,10 +29,13 @@ type Group = (&'static str, fn() -> Vec<Lines>);
 pub const PROGRAMS: [(&str, &[Group]); 4] = [
     (
         "instructions",
-        &[(
-            "unprivileged instructions",
-            || lines(&instructions::cases()),
-        )],
+        &[
+            (
+                "unprivileged instructions",
+                || lines(&instructions::cases()),
+            ),
+            ("first faults", || lines(&held::cases())),
+        ],
     ),
     (
         "machine",
@@ -47,6 +51,7 @@ pub const PROGRAMS: [(&str, &[Group]); 4] = [
             ("runs", || lines(&runs::cases())),
             ("images", || lines(&images::cases())),
             ("words", || lines(&words::cases())),
+            ("first faults", || lines(&held::operations_cases())),
         ],
     ),
     (
@@ -103,17 +108,23 @@ fn pattern(index: usize) -> u16 {
     (index % 1_048_576 * 40_503 % 65_521) as u16
 }
 
-/// Registers and control words of the base machine.
+/// Control words of the base machine before the PCRs.
+const BEFORE_PCR: [u16; control::PCR] = [LEVEL as u16, 1, 1, 0, 8, 0o177777, 5, 0, 0o3776, 0];
+const FIRST_PCR: usize = REGISTER_WORDS + control::PCR;
+const LAST_PCR: usize = FIRST_PCR + 15;
+
+/// Registers and control words of the base machine. Its PGS is 0 and not held.
 fn base_state() -> [u16; STATE_WORDS] {
     let mut words = [0; STATE_WORDS];
     for (index, word) in words.iter_mut().enumerate() {
         *word = match index {
             0..=127 if index % 8 == 0 => (index * 3 % 256 / 2 * 2) as u16,
             0..=127 => pattern(index + 7),
-            _ => ((index + 2) % 4 * 512 + (index + 3) % 4 * 128 + 2) as u16,
+            FIRST_PCR..=LAST_PCR => ((index + 2) % 4 * 512 + (index + 3) % 4 * 128 + 2) as u16,
+            _ => 0,
         };
     }
-    words[128..138].copy_from_slice(&[LEVEL as u16, 1, 1, 0, 8, 0o177777, 5, 0, 0o3776, 0]);
+    words[REGISTER_WORDS..FIRST_PCR].copy_from_slice(&BEFORE_PCR);
     words
 }
 

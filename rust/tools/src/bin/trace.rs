@@ -2,7 +2,7 @@
 //! that word and its mnemonic come from the second engine.
 
 use nd110::{Control, MEMORY_MOST, PAGE_WORDS, Register, State, TABLE_WORDS};
-use second::{Reg, disassemble, next_word};
+use second::{REGISTER_WORDS, Reg, control, disassemble, next_word};
 use std::fmt::Write as _;
 use std::io::{self, BufWriter, Read, Write};
 use std::process::ExitCode;
@@ -14,11 +14,6 @@ Loads an image into so many pages of memory and steps it until it stops, with a 
 level, address, word, mnemonic, registers and control words that changed, interrupt. P going on by
 one is not mentioned. At most 1,000 steps and 16 pages unless said otherwise. The steps are those of
 the proved engine; word and mnemonic are the second engine's.";
-
-/// Control words before the PCRs.
-const CONTROL: [&str; 10] = [
-    "LEVEL", "ION", "PON", "STOPPED", "PID", "PIE", "PVL", "IID", "IIE", "PGS",
-];
 
 /// Internal interrupts by number; 8 and 10 never come.
 const INTERRUPTS: [&str; 11] = [
@@ -45,10 +40,9 @@ fn changes(before: &State, after: &State) -> String {
             continue;
         }
         let name = match index {
-            0..=127 if index / 8 == level => Reg::ALL[index % 8].name().to_string(),
-            0..=127 => format!("{}({})", Reg::ALL[index % 8].name(), index / 8),
-            128..=137 => CONTROL[index - 128].to_string(),
-            _ => format!("PCR({})", index - 138),
+            0..REGISTER_WORDS if index / 8 == level => Reg::ALL[index % 8].name().to_string(),
+            0..REGISTER_WORDS => format!("{}({})", Reg::ALL[index % 8].name(), index / 8),
+            _ => control::name(index - REGISTER_WORDS),
         };
         let _ = write!(text, " {name}={new:06o}");
     }
