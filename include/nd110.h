@@ -8,8 +8,8 @@
  * under "What cannot be seen".
  *
  * Lent words
- *   state    ND110_STATE_WORDS words in image order: register n of level l is word 8 * l + n, control word n is word
- *            128 + n
+ *   state    ND110_STATE_WORDS words in image order, 128 registers and 27 control words: register n of level l is word
+ *            8 * l + n, control word n is word 128 + n
  *   memory   1,024 to 524,288 words, a multiple of 1,024
  *   tables   ND110_TABLE_WORDS words: four page tables of 64 entries
  *   Each is handed in as a place and its length in words, but for a record, which is a place alone. The engine keeps
@@ -29,6 +29,8 @@
  *     ND110_LENT(p, n) hands in the length 0 for a null pointer, which is refused wherever words are needed; a record
  *     that is lent, interrupt, steps and reason must not be null;
  *   - a length greater than what is lent there: the call reads or writes past the end;
+ *   - a record of a program that was compiled with the header of an earlier version: it is shorter, and the call reads
+ *     and writes past its end (docs/HOST.md);
  *   - places that overlap, where the call writes one of them: each is taken to be alone. image and out are lent words
  *     too;
  *   - a place that is not aligned for a word;
@@ -45,14 +47,14 @@ extern "C" {
 #endif
 
 /* The version of this interface; docs/HOST.md tells what each changed. */
-#define ND110_VERSION 2
+#define ND110_VERSION 3
 
 /* Sizes, in words. An image that nd110_write makes has memory + ND110_IMAGE_EXTRA words. */
-#define ND110_STATE_WORDS 154
+#define ND110_STATE_WORDS 155
 #define ND110_TABLE_WORDS 256
 #define ND110_PAGE_WORDS 1024
 #define ND110_MEMORY_MOST 524288
-#define ND110_IMAGE_EXTRA 431
+#define ND110_IMAGE_EXTRA 432
 
 /* Words of the floating forms: A D of the short one, 32 bits, and T A D of the long one, 48 bits. */
 #define ND110_SHORT_WORDS 2
@@ -74,7 +76,7 @@ extern "C" {
 #define ND110_MALFORMED 15      /* not zero, and a short exponent field or the top bit of a long mantissa is 0 */
 #define ND110_EXPONENT_RANGE 16 /* long to short: an exponent field beyond 16,129 to 16,639 */
 #define ND110_PRECISION 17      /* long to short: any of the nine lowest mantissa bits is set */
-#define ND110_BAD_CALL 255      /* a state of other than 154 words; view: an unknown kind, or too few words of output;
+#define ND110_BAD_CALL 255      /* a state of other than 155 words; view: an unknown kind, or too few words of output;
                                  * a conversion: an output of other than the form's words */
 
 /* Why a run ended. */
@@ -87,11 +89,14 @@ extern "C" {
 #define ND110_MEMORY 1
 #define ND110_TABLES 4
 
-/* Registers of a level, and control words. */
+/* Registers of a level, and control words. ND110_PCR is the PCR of level 0, and those of levels 1 to 15 follow it.
+ * ND110_PGS_HELD is 1 from the paging fault (interrupt 2 or 3) that wrote PGS until TRA PGS is executed, and PGS keeps
+ * that fault while it is 1. It is 0 or 1 whatever PGS is; a PGS that is held may be 0. */
 enum { ND110_STS, ND110_D, ND110_P, ND110_B, ND110_L, ND110_A, ND110_T, ND110_X };
 enum {
     ND110_CONTROL_LEVEL, ND110_INTERRUPTS_ON, ND110_PAGING_ON, ND110_IS_STOPPED,
-    ND110_PID, ND110_PIE, ND110_PVL, ND110_IID, ND110_IIE, ND110_PGS, ND110_PCR
+    ND110_PID, ND110_PIE, ND110_PVL, ND110_IID, ND110_IIE, ND110_PGS, ND110_PCR,
+    ND110_PGS_HELD = 26 /* ND110_PCR + 16 */
 };
 #define ND110_REGISTER(level, number) (8 * (level) + (number))
 #define ND110_CONTROL(number) (128 + (number))
@@ -114,6 +119,7 @@ typedef struct nd110_state {
     uint16_t iie;
     uint16_t pgs;
     uint16_t pcr[16];
+    uint16_t pgs_held;
 } nd110_state;
 
 /* Does not compile, as C or C++, if the record has other than ND110_STATE_WORDS words. */
@@ -155,7 +161,8 @@ uint16_t nd110_raise_lent(nd110_state *state, uint16_t level, const uint16_t *me
                           const uint16_t *tables, size_t tables_len);
 
 /* The machine of an image: words, not bytes (an image file has the high byte first). Words that the image does not name
- * become 0. The state's words before the call may be any.
+ * become 0; so does ND110_PGS_HELD with an image of only 26 control words, as versions 1 and 2 wrote them. The state's
+ * words before the call may be any.
  * ND110_BAD_CALL, ND110_SIZES, ND110_CONTENTS to ND110_BODIES, ND110_STATE. */
 uint16_t nd110_load(uint16_t *state, size_t state_len, const uint16_t *image, size_t image_len,
                     uint16_t *memory, size_t memory_len, uint16_t *tables, size_t tables_len);

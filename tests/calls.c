@@ -1,8 +1,9 @@
 /*
  * Every function of include/nd110.h called through the archive, with arguments that cannot be taken for one another:
  * state, memory, page tables, image and output have different lengths, and the answers tell the numbers apart. What
- * must come is written by hand from document 01, of the conversions from document 02, card 12.
- * rust/nd110/tests/calls.rs is the same through the Rust crate.
+ * must come is written by hand from document 01, of a paging fault that is held from document 02, card 3, of the
+ * conversions from document 02, card 12. rust/nd110/tests/calls.rs is the same through the Rust crate, with held.rs
+ * beside it.
  */
 #include "nd110.h"
 #include <stdio.h>
@@ -46,7 +47,7 @@ static void is(int line, const char *what, unsigned long long got, unsigned long
 }
 #define IS(got, want) is(__LINE__, #got, (got), (want))
 
-/* Words that are all 0 but for those named. */
+/* Words that are all 0 but for those named; of two for one place the last holds. */
 struct word {
     size_t at;
     uint16_t value;
@@ -95,41 +96,51 @@ static const uint16_t image[] = {
 enum {
     A_0 = ND110_REGISTER(0, ND110_A),
     P_0 = ND110_REGISTER(0, ND110_P),
+    B_0 = ND110_REGISTER(0, ND110_B),
+    X_0 = ND110_REGISTER(0, ND110_X),
     A_2 = ND110_REGISTER(2, ND110_A),
     T_14 = ND110_REGISTER(14, ND110_T),
     LEVEL = ND110_CONTROL(ND110_CONTROL_LEVEL),
     ION = ND110_CONTROL(ND110_INTERRUPTS_ON),
+    PAGING = ND110_CONTROL(ND110_PAGING_ON),
     STOPPED = ND110_CONTROL(ND110_IS_STOPPED),
     PID = ND110_CONTROL(ND110_PID),
     PIE = ND110_CONTROL(ND110_PIE),
     IID = ND110_CONTROL(ND110_IID),
-    IIE = ND110_CONTROL(ND110_IIE)
+    IIE = ND110_CONTROL(ND110_IIE),
+    PGS = ND110_CONTROL(ND110_PGS),
+    PCR_0 = ND110_CONTROL(ND110_PCR),
+    HELD = ND110_CONTROL(ND110_PGS_HELD)
 };
 
 /* Where a word is, by document 01 and not by the header. */
 static void places(void)
 {
     IS(P_0, 2);
+    IS(B_0, 3);
     IS(A_0, 5);
+    IS(X_0, 7);
     IS(A_2, 21);
     IS(T_14, 118);
     IS(LEVEL, 128);
     IS(ION, 129);
-    IS(ND110_CONTROL(ND110_PAGING_ON), 130);
+    IS(PAGING, 130);
     IS(STOPPED, 131);
     IS(PID, 132);
     IS(PIE, 133);
     IS(ND110_CONTROL(ND110_PVL), 134);
     IS(IID, 135);
     IS(IIE, 136);
-    IS(ND110_CONTROL(ND110_PGS), 137);
-    IS(ND110_CONTROL(ND110_PCR) + 15, 153);
+    IS(PGS, 137);
+    IS(PCR_0, 138);
+    IS(PCR_0 + 15, 153);
+    IS(HELD, 154);
 }
 
 /* Where a field of the record is, by document 01 too: two bytes a word. */
 static void fields(void)
 {
-    IS(sizeof(nd110_state), 2 * 154);
+    IS(sizeof(nd110_state), 2 * 155);
     IS(offsetof(nd110_state, registers[0][0]), 2 * 0);
     IS(offsetof(nd110_state, registers[0][7]), 2 * 7);
     IS(offsetof(nd110_state, registers[2][5]), 2 * 21);
@@ -147,6 +158,7 @@ static void fields(void)
     IS(offsetof(nd110_state, pgs), 2 * 137);
     IS(offsetof(nd110_state, pcr[0]), 2 * 138);
     IS(offsetof(nd110_state, pcr[15]), 2 * 153);
+    IS(offsetof(nd110_state, pgs_held), 2 * 154);
 }
 
 /* Every word lent holds something, so that what a call clears or leaves is seen. */
@@ -309,8 +321,7 @@ static void lent_store(void)
     m.memory[1024] = 004003;
     IS(nd110_step_lent(&m.record, MEMORY, TABLES, &interrupt[1]), 0);
     IS(interrupt[1], 0);
-    RECORD_IS({ 18, 1 }, { A_2, 0321 }, { LEVEL, 2 }, { ND110_CONTROL(ND110_PAGING_ON), 1 }, { PIE, 010000 },
-              { IIE, 020 }, { 140, 2 });
+    RECORD_IS({ 18, 1 }, { A_2, 0321 }, { LEVEL, 2 }, { PAGING, 1 }, { PIE, 010000 }, { IIE, 020 }, { 140, 2 });
     ARE(m.memory, { 0, 004003 }, { 1, 0172403 }, { 2, 0153007 }, { 3, 0160000 }, { 4, 0151000 }, { 5, 0123456 },
         { 1024, 004003 }, { 1027, 0321 });
     ARE(m.tables, { 0, 0176001 }, { 3, 0111111 }, { 4, 022222 });
@@ -318,8 +329,143 @@ static void lent_store(void)
     m.record.pid = m.record.pie = 040000;
     IS(nd110_step_lent(&m.record, MEMORY, TABLES, &interrupt[1]), 0);
     IS(interrupt[1], 0);
-    RECORD_IS({ 18, 1 }, { A_2, 0321 }, { LEVEL, 14 }, { ION, 1 }, { ND110_CONTROL(ND110_PAGING_ON), 1 },
-              { PID, 040000 }, { PIE, 040000 }, { ND110_CONTROL(ND110_PVL), 2 }, { IIE, 020 }, { 140, 2 });
+    RECORD_IS({ 18, 1 }, { A_2, 0321 }, { LEVEL, 14 }, { ION, 1 }, { PAGING, 1 }, { PID, 040000 }, { PIE, 040000 },
+              { ND110_CONTROL(ND110_PVL), 2 }, { IIE, 020 }, { 140, 2 });
+    guards();
+}
+
+/* A machine on ring 2 with paging on, normal table 1: LDA 0,B from page 2, whose entry is 0; STA 0,X to page 3, whose
+ * entry is of ring 3; TRA PGS twice; the same STA; TRA PGS. Entries: the program; A, B and X; paging on; IIE for
+ * interrupt 2; the PCR; the page table words of pages 0 and 3. */
+static const uint16_t faulting[] = {
+    7,
+    1, 0, 0, 0, 6,
+    2, 0, 3, 0, 5,
+    3, 0, 2, 0, 1,
+    3, 0, 8, 0, 1,
+    3, 0, 10, 0, 1,
+    4, 0, 64, 0, 1,
+    4, 0, 67, 0, 1,
+    0044400, 0006000, 0150003, 0150003, 0006000, 0150003,
+    0004000, 0, 0321, 0, 0006000,
+    1,
+    04,
+    01002,
+    0162000,
+    0163001,
+};
+#define FAULTING faulting, WORDS(faulting)
+
+/* After each of its steps: the interrupt; P, A, PID and IID; PGS, and whether it is held. Of the first fault PGS is bit
+ * 14, table 1 and page 2; of the second, which finds it held, it would be table 1 and page 3, as it is of the third. */
+static const struct {
+    uint16_t interrupt, p, a, pid, iid, pgs, held;
+} faults[] = {
+    { 3, 1, 0321, 0, 010, 0040102, 1 },
+    { 2, 2, 0321, 040000, 014, 0040102, 1 },
+    { 0, 3, 0040102, 040000, 014, 0040102, 0 },
+    { 0, 4, 0040102, 040000, 014, 0040102, 0 },
+    { 2, 5, 0040102, 040000, 014, 0000103, 1 },
+    { 0, 6, 0000103, 040000, 014, 0000103, 0 },
+};
+
+/* The state's words after step i. */
+#define FAULTED(i)                                                                                   \
+    { P_0, faults[i].p }, { B_0, 0004000 }, { A_0, faults[i].a }, { X_0, 0006000 }, { PAGING, 1 },   \
+    { PID, faults[i].pid }, { IID, faults[i].iid }, { IIE, 04 }, { PGS, faults[i].pgs },             \
+    { PCR_0, 01002 }, { HELD, faults[i].held }
+
+/* Memory is the image's, and of the page tables the program's entry alone is marked, as used. */
+static void faulted(void)
+{
+    ARE(m.memory, { 0, 0044400 }, { 1, 0006000 }, { 2, 0150003 }, { 3, 0150003 }, { 4, 0006000 }, { 5, 0150003 });
+    ARE(m.tables, { 64, 0166000 }, { 67, 0163001 });
+    guards();
+}
+
+/* By words: each step, then so many steps at once, then to the first two interrupts, with a raise of level 11 between
+ * them. */
+static void held(void)
+{
+    fill();
+    IS(nd110_load(STATE, FAULTING, MEMORY, TABLES), 0);
+    for (size_t i = 0; i < WORDS(faults); i++) {
+        IS(nd110_step(STATE, MEMORY, TABLES, &interrupt[1]), 0);
+        IS(interrupt[1], faults[i].interrupt);
+        ARE(m.state, FAULTED(i));
+        faulted();
+    }
+    for (size_t i = 0; i < WORDS(faults); i++) {
+        fill();
+        IS(nd110_load(STATE, FAULTING, MEMORY, TABLES), 0);
+        IS(nd110_run(STATE, MEMORY, TABLES, i + 1, &steps[1], &reason[1]), 0);
+        IS(steps[1], i + 1);
+        IS(reason[1], 2);
+        ARE(m.state, FAULTED(i));
+        faulted();
+    }
+    fill();
+    IS(nd110_load(STATE, FAULTING, MEMORY, TABLES), 0);
+    IS(nd110_run_to_interrupt(STATE, MEMORY, TABLES, 10, &steps[1], &reason[1]), 0);
+    IS(steps[1], 1);
+    IS(reason[1], 3);
+    ARE(m.state, FAULTED(0));
+    IS(nd110_raise(STATE, 11, MEMORY, TABLES), 0);
+    ARE(m.state, FAULTED(0), { PID, 004000 });
+    IS(nd110_run_to_interrupt(STATE, MEMORY, TABLES, 10, &steps[1], &reason[1]), 0);
+    IS(steps[1], 1);
+    IS(reason[1], 3);
+    ARE(m.state, FAULTED(1), { PID, 044000 });
+    faulted();
+}
+
+/* By lent steps, read by the names of the fields and by their places; then a lent raise of level 11 while PGS is
+ * held. */
+static void lent_held(void)
+{
+    fill();
+    IS(nd110_load(RECORD, FAULTING, MEMORY, TABLES), 0);
+    IS(m.record.pgs_held, 0);
+    for (size_t i = 0; i < WORDS(faults); i++) {
+        IS(nd110_step_lent(&m.record, MEMORY, TABLES, &interrupt[1]), 0);
+        IS(interrupt[1], faults[i].interrupt);
+        IS(m.record.pgs, faults[i].pgs);
+        IS(m.record.pgs_held, faults[i].held);
+        RECORD_IS(FAULTED(i));
+        faulted();
+    }
+    m.record.pgs_held = 1;
+    IS(nd110_raise_lent(&m.record, 11, MEMORY, TABLES), 0);
+    RECORD_IS(FAULTED(5), { PID, 044000 }, { HELD, 1 });
+    faulted();
+}
+
+/* Written and loaded again, a fault stays held. An image of 26 control words leaves it not held, whatever the state had
+ * before. */
+static void held_images(void)
+{
+    static uint16_t copy[IMAGE_WORDS];
+    static const uint16_t old[6 + 26] = { 1, 3, 0, 0, 0, 26, [6 + 9] = 0040102 };
+    fill();
+    IS(nd110_load(RECORD, FAULTING, MEMORY, TABLES), 0);
+    IS(nd110_run(RECORD, MEMORY, TABLES, 2, &steps[1], &reason[1]), 0);
+    IS(nd110_write(RECORD, MEMORY, TABLES, m.out, IMAGE_WORDS), 0);
+    IS(m.out[21 + 2048 + 128 + 9], 0040102);
+    IS(m.out[21 + 2048 + 128 + 26], 1);
+    IS(m.out[IMAGE_WORDS], GUARD);
+    memcpy(copy, m.out, sizeof copy);
+    fill();
+    IS(nd110_load(RECORD, copy, WORDS(copy), MEMORY, TABLES), 0);
+    RECORD_IS(FAULTED(1));
+    faulted();
+    IS(m.record.pgs_held, 1);
+    IS(nd110_load(RECORD, old, WORDS(old), MEMORY, TABLES), 0);
+    IS(m.record.pgs_held, 0);
+    RECORD_IS({ PGS, 0040102 });
+    fill();
+    m.state[HELD] = 1;
+    IS(nd110_load(STATE, old, WORDS(old), MEMORY, TABLES), 0);
+    ARE(m.state, { PGS, 0040102 });
     guards();
 }
 
@@ -352,7 +498,7 @@ static void viewed(void)
 static void written(void)
 {
     static const uint16_t contents[] = {
-        4, 1, 0, 0, 0, 2048, 2, 0, 0, 0, 128, 3, 0, 0, 0, 26, 4, 0, 0, 0, 256
+        4, 1, 0, 0, 0, 2048, 2, 0, 0, 0, 128, 3, 0, 0, 0, 27, 4, 0, 0, 0, 256
     };
     static uint16_t copy[IMAGE_WORDS];
     stepped();
@@ -363,9 +509,10 @@ static void written(void)
     IS(m.out[21 + 2048 + 5], 5);
     IS(m.out[21 + 2048 + 21], 0321);
     IS(m.out[21 + 2048 + 128 + 5], 010000);
-    IS(m.out[21 + 2048 + 128 + 26 + 3], 0111111);
-    IS(m.out[21 + 2048 + 128 + 26 + 255], 0);
-    IS(m.out[2479], GUARD);
+    IS(m.out[21 + 2048 + 128 + 26], 0);
+    IS(m.out[21 + 2048 + 128 + 27 + 3], 0111111);
+    IS(m.out[21 + 2048 + 128 + 27 + 255], 0);
+    IS(m.out[2480], GUARD);
     ARE(m.state, { A_0, 5 }, { P_0, 1 }, { A_2, 0321 }, { PIE, 010000 }, { IIE, 020 });
     guards();
     memcpy(copy, m.out, sizeof copy);
@@ -385,6 +532,8 @@ static void refused(void)
     static const uint16_t target[] = { 1, 4, 0, 256, 0, 1, 0 };
     static const uint16_t overlap[] = { 2, 1, 0, 0, 0, 2, 1, 0, 1, 0, 1, 0, 0, 0 };
     static const uint16_t sts[] = { 1, 2, 0, 0, 0, 1, 0400 };
+    static const uint16_t past[] = { 1, 3, 0, 27, 0, 1, 0 };
+    static const uint16_t two[] = { 1, 3, 0, 26, 0, 1, 2 };
     static struct machine was;
     const uint16_t *nowhere = NULL;
     nd110_state *none = NULL;
@@ -393,7 +542,7 @@ static void refused(void)
     interrupt[1] = reason[1] = 077;
     steps[1] = 0777;
     was = m;
-    for (size_t len = 153; len <= 155; len += 2) {
+    for (size_t len = 154; len <= 156; len += 2) {
         IS(nd110_step(m.state, len, MEMORY, TABLES, &interrupt[1]), 255);
         IS(nd110_run(m.state, len, MEMORY, TABLES, 10, &steps[1], &reason[1]), 255);
         IS(nd110_run_to_interrupt(m.state, len, MEMORY, TABLES, 10, &steps[1], &reason[1]), 255);
@@ -437,10 +586,12 @@ static void refused(void)
     IS(nd110_load(STATE, many, WORDS(many), MEMORY, TABLES), 4);
     IS(nd110_load(STATE, kind, WORDS(kind), MEMORY, TABLES), 5);
     IS(nd110_load(STATE, target, WORDS(target), MEMORY, TABLES), 6);
+    IS(nd110_load(STATE, past, WORDS(past), MEMORY, TABLES), 6);
     IS(nd110_load(STATE, overlap, WORDS(overlap), MEMORY, TABLES), 7);
     IS(nd110_load(STATE, image, WORDS(image) - 1, MEMORY, TABLES), 8);
     IS(nd110_load(STATE, sts, WORDS(sts), MEMORY, TABLES), 2);
-    IS(nd110_write(STATE, MEMORY, TABLES, m.out, IMAGE_WORDS - 1), 10);
+    IS(nd110_load(STATE, two, WORDS(two), MEMORY, TABLES), 2);
+    IS(nd110_write(STATE, MEMORY, TABLES, m.out, MEMORY_WORDS + 431), 10);
     IS(nd110_view(2, 0, 1, MEMORY, TABLES, OUT), 255);
     IS(nd110_view(1, 0, 2, MEMORY, TABLES, m.out, 1), 255);
     IS(nd110_view(1, 2048, 1, MEMORY, TABLES, OUT), 9);
@@ -467,8 +618,40 @@ static void refused(void)
     guards();
 }
 
+/* Whether PGS is held is 0 or 1: every function that tests the state refuses others, and no lent word changes. */
+static void refused_held(void)
+{
+    static const uint16_t wrong[] = { 2, 3, 0100000, 0177777 };
+    static struct machine was;
+    for (size_t i = 0; i < WORDS(wrong); i++) {
+        loaded();
+        memcpy(&m.record, m.state, sizeof m.record);
+        interrupt[1] = reason[1] = 077;
+        steps[1] = 0777;
+        m.state[HELD] = m.record.pgs_held = wrong[i];
+        was = m;
+        IS(nd110_step(STATE, MEMORY, TABLES, &interrupt[1]), 2);
+        IS(nd110_step_lent(&m.record, MEMORY, TABLES, &interrupt[1]), 2);
+        IS(nd110_run(STATE, MEMORY, TABLES, 10, &steps[1], &reason[1]), 2);
+        IS(nd110_run(RECORD, MEMORY, TABLES, 10, &steps[1], &reason[1]), 2);
+        IS(nd110_run_to_interrupt(STATE, MEMORY, TABLES, 10, &steps[1], &reason[1]), 2);
+        IS(nd110_raise(STATE, 10, MEMORY, TABLES), 2);
+        IS(nd110_raise_lent(&m.record, 10, MEMORY, TABLES), 2);
+        IS(nd110_write(STATE, MEMORY, TABLES, OUT), 2);
+        IS(nd110_write(RECORD, MEMORY, TABLES, OUT), 2);
+        IS(memcmp(&m, &was, sizeof m), 0);
+        IS(interrupt[1], 077);
+        IS(reason[1], 077);
+        IS(steps[1], 0777);
+        guards();
+        m.state[HELD] = m.record.pgs_held = 1;
+        IS(nd110_step(STATE, MEMORY, TABLES, &interrupt[1]), 0);
+        IS(nd110_raise_lent(&m.record, 10, MEMORY, TABLES), 0);
+    }
+}
+
 /* A floating number in both forms: A D, and T A D. The first five are document 002's, with +3 as document 02 puts it
- * right and the long row that 002 prints for it, 2 to the 159th. Then the ends of the match with either sign, the lowest
+ * right and the long row that 002 prints for it, 2 to the 159th. Then ends of the match with either sign, the lowest
  * mantissa bit of the short form, and a mantissa whose parts differ. */
 static const struct {
     uint16_t s[ND110_SHORT_WORDS], l[ND110_LONG_WORDS];
@@ -590,9 +773,13 @@ int main(void)
     to_interrupt();
     lent();
     lent_store();
+    held();
+    lent_held();
+    held_images();
     viewed();
     written();
     refused();
+    refused_held();
     converted();
     not_converted();
     if (failures == 0)

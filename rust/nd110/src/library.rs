@@ -109,7 +109,7 @@ mod raw {
 }
 
 // SAFETY of every call below: the places and lengths are those of slices and references, valid, and apart where one is
-// written; the library is proved to stay within them. A record's place is that of a `State`, which is exactly its 154
+// written; the library is proved to stay within them. A record's place is that of a `State`, which is exactly its 155
 // words (`repr(transparent)`), in the order of the header's nd110_state.
 
 pub fn step(state: &mut [u16], memory: &mut [u16], tables: &mut [u16], interrupt: &mut u16) -> u16 {
@@ -292,11 +292,72 @@ pub fn long_to_short(t: u16, a: u16, d: u16, out: &mut [u16]) -> u16 {
     unsafe { raw::nd110_long_to_short(t, a, d, out.as_mut_ptr(), out.len()) }
 }
 
-/// What no other function of this crate can ask for: conversions to outputs of any length, and over the words that were
-/// read.
+/// What no other function of this crate can ask for: states of any length, a load over a state that holds something,
+/// conversions to outputs of any length, and over the words that were read.
 #[cfg(test)]
 mod tests {
     use super::*;
+    use crate::{IMAGE_EXTRA, PAGE_WORDS, TABLE_WORDS};
+
+    /// Every call that takes the state as words, on these words, each with its own copy; state, memory, page tables and
+    /// output after it, and what was told beside its number.
+    fn calls(state: &[u16]) -> Vec<(u16, Vec<u16>, [u64; 3])> {
+        let image: [u16; 6] = [1, 3, 0, 0, 0, 0];
+        (0..6)
+            .map(|call| {
+                let mut state = state.to_vec();
+                let (mut memory, mut tables) = ([F; PAGE_WORDS], [F; TABLE_WORDS]);
+                let mut out = [F; PAGE_WORDS + IMAGE_EXTRA];
+                let (mut interrupt, mut taken, mut reason) = (F, u64::from(F), F);
+                let (s, m, t) = (&mut state[..], &mut memory[..], &mut tables[..]);
+                let number = match call {
+                    0 => step(s, m, t, &mut interrupt),
+                    1 => run(s, m, t, 0, &mut taken, &mut reason),
+                    2 => run_to_interrupt(s, m, t, 0, &mut taken, &mut reason),
+                    3 => raise(s, 10, m, t),
+                    4 => load(s, &image, m, t),
+                    _ => write(s, m, t, &mut out),
+                };
+                for words in [&memory[..], &tables, &out] {
+                    state.extend(words);
+                }
+                let told = [interrupt.into(), taken, reason.into()];
+                (number, state, told)
+            })
+            .collect()
+    }
+
+    /// A state of 154 words, as it was before version 3, is no state, nor is one of 156.
+    #[test]
+    fn states_of_any_length() {
+        let rest = PAGE_WORDS + TABLE_WORDS + PAGE_WORDS + IMAGE_EXTRA;
+        for len in [0, 1, 128, 153, 154, 156, 157, 310] {
+            let left: Vec<u16> = [vec![0; len], vec![F; rest]].concat();
+            for given in calls(&vec![0; len]) {
+                assert_eq!(given, (255, left.clone(), [F.into(); 3]), "{len} words");
+            }
+        }
+        let numbers: Vec<u16> = calls(&[0; 155]).iter().map(|given| given.0).collect();
+        assert_eq!(numbers, [0; 6]);
+    }
+
+    /// An image of 26 control words, over a state whose PGS is held: what it does not name is 0.
+    #[test]
+    fn loads_over_a_held_state() {
+        let mut image = vec![1, 3, 0, 0, 0, 26];
+        image.resize(6 + 26, 0);
+        image[6 + 9] = 0o040102;
+        let (mut memory, mut tables) = ([F; PAGE_WORDS], [F; TABLE_WORDS]);
+        let mut want = [0; 155];
+        want[128 + 9] = 0o040102;
+        for held in [0, 1, 2, 0o177777] {
+            let mut state = [0; 155];
+            state[128 + 26] = held;
+            assert_eq!(load(&mut state, &image, &mut memory, &mut tables), 0);
+            assert_eq!(state, want);
+        }
+        assert_eq!((memory, tables), ([0; PAGE_WORDS], [0; TABLE_WORDS]));
+    }
 
     /// What an output holds before a conversion.
     const F: u16 = 0o125252;

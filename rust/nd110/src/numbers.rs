@@ -4,10 +4,10 @@ use std::error::Error;
 use std::fmt;
 
 /// The version of the interface.
-pub const VERSION: usize = 2;
+pub const VERSION: usize = 3;
 
-/// Words of a state in image order: 128 registers, then 26 control words.
-pub const STATE_WORDS: usize = 154;
+/// Words of a state in image order: 128 registers, then 27 control words.
+pub const STATE_WORDS: usize = 155;
 /// Words of lent page tables.
 pub const TABLE_WORDS: usize = 256;
 /// Words of a page: lent memory is a whole number of pages.
@@ -15,7 +15,7 @@ pub const PAGE_WORDS: usize = 1024;
 /// Most words of lent memory.
 pub const MEMORY_MOST: usize = 524_288;
 /// Words of a written image beside memory.
-pub const IMAGE_EXTRA: usize = 431;
+pub const IMAGE_EXTRA: usize = 432;
 /// Words of a short floating number, 32 bits: A, D.
 pub const SHORT_WORDS: usize = 2;
 /// Words of a long floating number, 48 bits: T, A, D.
@@ -162,7 +162,7 @@ pub enum Register {
     X,
 }
 
-/// A control word; the PCRs of the sixteen levels follow.
+/// A control word. The PCRs of the sixteen levels stand between `Pgs` and `PgsHeld`.
 #[derive(Clone, Copy, Debug, PartialEq, Eq)]
 pub enum Control {
     Level,
@@ -175,6 +175,9 @@ pub enum Control {
     Iid,
     Iie,
     Pgs,
+    /// 1 from the paging fault (interrupt 2 or 3) that wrote PGS until TRA PGS is executed: PGS keeps that fault while
+    /// this is 1. It is 0 or 1 whatever PGS is; a PGS that is held may be 0.
+    PgsHeld = 26,
 }
 
 /// The control word that is the PCR of level 0.

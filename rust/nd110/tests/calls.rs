@@ -42,6 +42,7 @@ const PID: usize = 132;
 const PIE: usize = 133;
 const IID: usize = 135;
 const IIE: usize = 136;
+const HELD: usize = 154;
 
 #[derive(Clone, Debug, PartialEq)]
 struct Machine {
@@ -251,15 +252,15 @@ fn written() {
     let mut out = vec![FILLED; MEMORY + IMAGE_EXTRA + 1];
     assert_eq!(m.write(&mut out), Ok(()));
     let contents = [
-        4, 1, 0, 0, 0, 2048, 2, 0, 0, 0, 128, 3, 0, 0, 0, 26, 4, 0, 0, 0, 256,
+        4, 1, 0, 0, 0, 2048, 2, 0, 0, 0, 128, 3, 0, 0, 0, 27, 4, 0, 0, 0, 256,
     ];
     assert_eq!(out[..21], contents);
     assert_eq!(out[21..2069], m.memory);
-    assert_eq!(out[2069..2223], m.state.0);
-    assert_eq!(out[2223..2479], m.tables);
-    assert_eq!(out[2479], FILLED);
+    assert_eq!(out[2069..2224], m.state.0);
+    assert_eq!(out[2224..2480], m.tables);
+    assert_eq!(out[2480], FILLED);
     let (mut memory, mut tables) = (vec![FILLED; MEMORY], vec![FILLED; TABLE_WORDS]);
-    let state = load(&out[..2479], &mut memory, &mut tables).unwrap();
+    let state = load(&out[..2480], &mut memory, &mut tables).unwrap();
     let again = Machine {
         state,
         memory,
@@ -283,20 +284,26 @@ fn refused() {
     let mut m = loaded.clone();
     m.state.0[0] = 0o400;
     m.refuses_all(Refusal::State);
+    for held in [2, 3, 0o100000, 0o177777] {
+        let mut m = loaded.clone();
+        m.state.0[HELD] = held;
+        m.refuses_all(Refusal::State);
+    }
     let mut m = loaded.clone();
     for level in [0, 9, 14, 16] {
         assert_eq!(m.raise(level), Err(Refusal::RaiseLevel));
         assert_eq!(m.raise_lent(level), Err(Refusal::RaiseLevel));
     }
-    let mut out = [FILLED; MEMORY + IMAGE_EXTRA - 1];
+    let mut out = [FILLED; MEMORY + 431];
     assert_eq!(m.write(&mut out), Err(Refusal::Output));
     assert!(out.iter().all(|word| *word == FILLED));
-    let images: [(&[u16], Refusal); 9] = [
+    let images: [(&[u16], Refusal); 11] = [
         (&[], Refusal::Contents),
         (&IMAGE[..25], Refusal::Contents),
         (&[33], Refusal::Contents),
         (&[1, 5, 0, 0, 0, 0], Refusal::Kind),
         (&[1, 4, 0, 256, 0, 1, 0], Refusal::Target),
+        (&[1, 3, 0, 27, 0, 1, 0], Refusal::Target),
         (
             &[2, 1, 0, 0, 0, 2, 1, 0, 1, 0, 1, 0, 0, 0],
             Refusal::Overlap,
@@ -304,6 +311,7 @@ fn refused() {
         (&IMAGE[..36], Refusal::Bodies),
         (&[0, 0], Refusal::Bodies),
         (&[1, 2, 0, 0, 0, 1, 0o400], Refusal::State),
+        (&[1, 3, 0, 26, 0, 1, 2], Refusal::State),
     ];
     for (image, refusal) in images {
         assert_eq!(load(image, &mut m.memory, &mut m.tables), Err(refusal));
@@ -312,7 +320,7 @@ fn refused() {
 }
 
 /// A floating number in both forms. The first five are document 002's, with +3 as document 02 puts it right and the
-/// long row that 002 prints for it, 2 to the 159th. Then the ends of the match with either sign, the lowest mantissa bit
+/// long row that 002 prints for it, 2 to the 159th. Then ends of the match with either sign, the lowest mantissa bit
 /// of the short form, and a mantissa whose parts differ.
 const FORMS: [([u16; 2], [u16; 3]); 11] = [
     ([0, 0], [0, 0, 0]),

@@ -149,15 +149,31 @@ fn numbers() {
     assert_eq!(ours, defined());
 }
 
-/// The names of each `enum { .. };`, which count from 0.
-fn enumerated() -> Vec<Vec<String>> {
+/// The names of each `enum { .. };` with their numbers: one that gives none has one more than that before it, the first
+/// 0.
+fn enumerated() -> Vec<Vec<(String, usize)>> {
     let code = code(HEADER);
     code.split("enum {")
         .skip(1)
-        .map(|part| arguments(part.split('}').next().unwrap_or_default()))
+        .map(|part| {
+            let names = arguments(part.split('}').next().unwrap_or_default());
+            let mut next = 0;
+            names
+                .iter()
+                .map(|name| {
+                    let (name, number) = match name.split_once(" = ") {
+                        Some((name, number)) => (name, number.parse().expect("a number")),
+                        None => (name.as_str(), next),
+                    };
+                    next = number + 1;
+                    (name.to_string(), number)
+                })
+                .collect()
+        })
         .collect()
 }
 
+/// The control words before the PCRs.
 const CONTROLS: [Control; PCR] = {
     use Control::*;
     [
@@ -193,9 +209,9 @@ fn places() {
     assert_eq!(ours.len(), registers.len());
     for (at, register) in registers.into_iter().enumerate() {
         assert_eq!(register as usize, at);
-        assert_eq!(ours[at], format!("ND110_{}", upper(&register)));
+        assert_eq!(ours[at], (format!("ND110_{}", upper(&register)), at));
     }
-    assert_eq!(control.len(), CONTROLS.len() + 1);
+    assert_eq!(control.len(), CONTROLS.len() + 2);
     for (at, word) in CONTROLS.into_iter().enumerate() {
         assert_eq!(word as usize, at);
         let name = match word {
@@ -203,9 +219,12 @@ fn places() {
             Stopped => "IS_STOPPED".to_string(),
             other => upper(&other),
         };
-        assert_eq!(control[at], format!("ND110_{name}"));
+        assert_eq!(control[at], (format!("ND110_{name}"), at));
     }
-    assert_eq!(control[PCR], "ND110_PCR");
+    assert_eq!(control[PCR], ("ND110_PCR".to_string(), PCR));
+    let held = format!("ND110_{}", upper(&PgsHeld));
+    assert_eq!(control[PCR + 1], (held, PgsHeld as usize));
+    assert_eq!(PgsHeld as usize, PCR + 16);
 }
 
 /// The fields of the header's record: each `uint16_t ..;`.
@@ -223,12 +242,14 @@ fn fields() -> Vec<String> {
         .collect()
 }
 
-/// The record is the state in image order: registers of sixteen levels, the control words, the PCRs.
+/// The record is the state in image order: registers of sixteen levels, the control words, the PCRs, and whether PGS is
+/// held.
 #[test]
 fn record() {
     let mut ours = vec!["registers[16][8]".to_string()];
     ours.extend(CONTROLS.iter().map(|word| upper(word).to_lowercase()));
     ours.push("pcr[16]".to_string());
+    ours.push(upper(&Control::PgsHeld).to_lowercase());
     assert_eq!(fields(), ours);
-    assert_eq!(16 * 8 + CONTROLS.len() + 16, STATE_WORDS);
+    assert_eq!(16 * 8 + CONTROLS.len() + 16 + 1, STATE_WORDS);
 }

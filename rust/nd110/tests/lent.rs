@@ -3,24 +3,30 @@
 //! sets, is written by hand from document 01.
 
 use nd110::{
-    Control, IMAGE_EXTRA, MEMORY_MOST, Machine, PAGE_WORDS, Reason, Refusal, Register, STATE_WORDS,
-    State, TABLE_WORDS, Target, load, raise, raise_lent, run, run_to_interrupt, step, step_lent,
-    view, write,
+    Control, IMAGE_EXTRA, MEMORY_MOST, Machine, PAGE_WORDS, Reason, Refusal, Register, State,
+    TABLE_WORDS, Target, load, raise, raise_lent, run, run_to_interrupt, step, step_lent, view,
+    write,
 };
 
-// State words: registers at 8 * level + number, control words from 128 on, the PCRs last.
+// State words: registers at 8 * level + number, control words from 128 on, sixteen PCRs, and last whether PGS is held.
 const P_0: usize = 2;
+const A_0: usize = 5;
 const LEVEL: usize = 128;
 const INTERRUPTS: usize = 129;
 const PAGING: usize = 130;
 const STOPPED: usize = 131;
 const PID: usize = 132;
+const PGS: usize = 137;
 const PCR: usize = 138;
+const HELD: usize = 154;
+
+const TRA_PGS: u16 = 0o150003;
 
 /// The bits that a control word may have, by document 01: level, interrupts on, paging on, stopped, PID, PIE, PVL, IID,
-/// IIE, PGS, then sixteen PCRs. A word is in range if it has no other bit.
-const CONTROL_BITS: [u16; 26] = {
-    let mut bits = [0o003603; 26];
+/// IIE, PGS, then sixteen PCRs, and by document 02, card 3, whether PGS is held. A word is in range if it has no other
+/// bit.
+const CONTROL_BITS: [u16; 27] = {
+    let mut bits = [0o003603; 27];
     let first = [
         0o17, 1, 1, 1, 0o177777, 0o177777, 0o17, 0o3776, 0o3776, 0o140377,
     ];
@@ -29,6 +35,7 @@ const CONTROL_BITS: [u16; 26] = {
         bits[at] = first[at];
         at += 1;
     }
+    bits[26] = 1;
     bits
 };
 
@@ -71,8 +78,9 @@ impl Pieces {
         }
     }
 
-    /// Any words; control words in range, paging mostly on, most levels on ring 3; entries that mostly permit all, in
-    /// pages that are there. One in sixteen has 64 pages, so that it can go on with paging off.
+    /// Any words, one in sixteen of memory TRA PGS; control words in range, paging mostly on, most levels on ring 3;
+    /// entries that mostly permit all, in pages that are there. One in sixteen has 64 pages, so that it can go on with
+    /// paging off.
     fn random(random: &mut Random) -> Pieces {
         let pages = match random.below(16) {
             0 => 64,
@@ -80,14 +88,17 @@ impl Pieces {
         };
         let mut m = Pieces::new(usize::from(pages));
         m.state.0.fill_with(|| random.word());
-        m.memory.fill_with(|| random.word());
+        m.memory.fill_with(|| match random.below(16) {
+            0 => TRA_PGS,
+            _ => random.word(),
+        });
         for sts in m.state.0[..LEVEL].iter_mut().step_by(8) {
             *sts &= 0o377;
         }
         for (word, bits) in m.state.0[LEVEL..].iter_mut().zip(CONTROL_BITS) {
             *word &= bits;
         }
-        for pcr in &mut m.state.0[PCR..] {
+        for pcr in &mut m.state.0[PCR..HELD] {
             *pcr |= [0, 3][usize::from(random.below(2))];
         }
         m.state.0[PAGING] |= random.below(2);
@@ -148,6 +159,11 @@ struct Seen {
     raises: u32,
     stores: u32,
     tables: u32,
+    /// Paging faults that PGS took, and those that found it held.
+    taken: u32,
+    late: u32,
+    /// Steps that released it.
+    released: u32,
 }
 
 impl Three {
@@ -177,7 +193,29 @@ impl Three {
         seen.changes += u32::from(was.state.0[LEVEL] != self.plain.state.0[LEVEL]);
         seen.stores += u32::from(was.memory != self.plain.memory);
         seen.tables += u32::from(was.tables != self.plain.tables);
+        self.held(&was, seen, interrupt);
         interrupt
+    }
+
+    /// By document 02, card 3: 2 and 3 write PGS and hold it if it is not held, and leave it if it is; every other step
+    /// leaves its value, and releases it only if A of the running level gets it.
+    fn held(&self, was: &Pieces, seen: &mut Seen, interrupt: u16) {
+        let (before, after) = (was.state.0, self.plain.state.0);
+        if before[HELD] == 0 && matches!(interrupt, 2 | 3) {
+            seen.taken += 1;
+            assert_eq!(after[HELD], 1);
+            return;
+        }
+        assert_eq!(after[PGS], before[PGS]);
+        if interrupt != 0 {
+            assert_eq!(after[HELD], before[HELD]);
+        }
+        assert!(after[HELD] <= before[HELD]);
+        seen.late += u32::from(matches!(interrupt, 2 | 3));
+        if after[HELD] != before[HELD] {
+            seen.released += 1;
+            assert_eq!(after[8 * usize::from(after[LEVEL]) + A_0], after[PGS]);
+        }
     }
 
     /// A state word stored by the host.
@@ -187,8 +225,8 @@ impl Three {
         self.owned.state_mut().0[at] = word;
     }
 
-    /// What a host does between two steps: now and then a raise, of a level that may be refused, and rarely other
-    /// levels pending. A machine that has stopped or given an interrupt goes on elsewhere.
+    /// What a host does between two steps: now and then a raise, of a level that may be refused, or PGS held or not,
+    /// and rarely other levels pending. A machine that has stopped or given an interrupt goes on elsewhere.
     fn host(&mut self, random: &mut Random, seen: &mut Seen, interrupt: u16) {
         if random.below(16) == 0 {
             let level = random.below(17);
@@ -197,6 +235,9 @@ impl Three {
             assert_eq!(self.owned.raise(level), answer);
             seen.raises += u32::from(answer.is_ok());
             self.equal();
+        }
+        if random.below(16) == 0 {
+            self.store(HELD, random.below(2));
         }
         if random.below(64) == 0 {
             self.store(PID, random.word());
@@ -249,9 +290,13 @@ fn random_machines() {
         ("raises", seen.raises),
         ("stores to memory", seen.stores),
         ("stores to page tables", seen.tables),
+        ("faults that PGS took", seen.taken),
+        ("faults that found it held", seen.late),
     ] {
         assert!(count > 1000, "{count} {what}");
     }
+    let released = seen.released;
+    assert!(released > 100, "{released} steps that released PGS");
 }
 
 /// Both lent calls are refused with this number, whichever level a raise names, and each leaves every word.
@@ -313,8 +358,8 @@ fn control_words() {
             }
         }
     }
-    // 4 + 3 + 32 + 4 + 20 + 10 of the first ten words, 6 of each PCR
-    assert_eq!(taken, starts.len() * (73 + 16 * 6));
+    // 4 + 3 + 32 + 4 + 20 + 10 of the first ten words, 6 of each PCR, 1 of the last
+    assert_eq!(taken, starts.len() * (73 + 16 * 6 + 1));
 }
 
 /// An STS of 256 or more, on each level, whichever runs.
@@ -509,10 +554,8 @@ fn same_image(m: &Pieces, machine: &Machine) {
         assert_eq!(machine.register(level, Register::X), words[7]);
         assert_eq!(machine.pcr(level), machine.state().0[PCR + level]);
     }
-    assert_eq!(
-        machine.control(Control::Pgs),
-        machine.state().0[STATE_WORDS - 17]
-    );
+    assert_eq!(machine.control(Control::Pgs), machine.state().0[PGS]);
+    assert_eq!(machine.control(Control::PgsHeld), machine.state().0[HELD]);
 }
 
 /// Short, and of a state out of range too.
