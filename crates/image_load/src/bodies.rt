@@ -22,6 +22,8 @@ use isa::constant::KIND_REGISTERS;
 use isa::constant::LEVEL_COUNT;
 use isa::constant::REGISTER_WORDS;
 use isa::machine::Control;
+use isa::machine::Pcrs;
+use isa::machine::RegisterWords;
 use isa::machine::State;
 use words::clear;
 use words::copy;
@@ -69,9 +71,7 @@ pub fn fill(kind: u16, image: &[u16], target: &mut [u16])
     place(kind, image, n, target);
 }
 
-// Registers and control words in image order.
-pub type RegisterWords = [u16; REGISTER_WORDS];
-
+// Control words in image order.
 pub type ControlWords = [u16; CONTROL_COUNT];
 
 // Control words 1 to 9 and 26, of all control words in image order.
@@ -94,8 +94,6 @@ pub fn control_of(words: &[u16]) -> Control
 }
 
 // The PCRs, of all control words in image order.
-pub type Pcrs = [u16; LEVEL_COUNT];
-
 pub fn pcrs_of(words: &[u16]) -> Pcrs
     requires { ⌜ length (now words) ≡ controlCount ⌝ }
     ensures { λ p. ⌜ p ≡ stateOf [] (now (words .entry)) .pcr ⌝ }

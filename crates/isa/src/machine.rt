@@ -134,14 +134,19 @@ pub struct Added {
     pub held: u16,
 }
 
+// The registers and the PCRs of all levels.
+pub type RegisterWords = [u16; REGISTER_WORDS];
+
+pub type Pcrs = [u16; LEVEL_COUNT];
+
 // The machine as callers hand it in and get it back: register n of a level is word 8 * level + n. In C's layout its 155
 // words stand in image order, with nothing between them.
 #[repr(C)]
 pub struct State {
-    pub regs: [u16; REGISTER_WORDS],
+    pub regs: RegisterWords,
     pub level: u16,
     pub control: Scalars,
-    pub pcr: [u16; LEVEL_COUNT],
+    pub pcr: Pcrs,
     pub added: Added,
 }
 
@@ -182,12 +187,7 @@ impl State {
     }
 
     // The state of its parts.
-    pub fn with(
-        level: u16,
-        k: Control,
-        regs: [u16; REGISTER_WORDS],
-        pcrs: [u16; LEVEL_COUNT],
-    ) -> State
+    pub fn with(level: u16, k: Control, regs: RegisterWords, pcrs: Pcrs) -> State
         ensures { λ s. ⌜ s ≡ stateWith level k regs pcrs ⌝ }
     {
         State {
