@@ -1,4 +1,4 @@
-// The machine that every case starts from, before its changes.
+// The machine that every case starts from, before its changes: in 19-bit mode, or in extended mode.
 use isa::constant::FILE_SIZE;
 use isa::constant::PAGE_WORDS;
 use isa::constant::REGISTER_WORDS;
@@ -28,7 +28,7 @@ fn state_word(i: usize) -> u16 {
         135 => 0,
         136 => 2046,
         137 => 0,
-        154 => 0,
+        154..=155 => 0,
         _ => pcr(i),
     }
 }
@@ -47,6 +47,19 @@ fn entry(i: usize, size: usize) -> u16 {
     (58368 + (i % 64 + i / 64 % 4) % pages % 512) as u16
 }
 
+// The same entries in extended mode, of two words each.
+fn long_entry(i: usize, size: usize) -> u16 {
+    if size < PAGE_WORDS {
+        return 0;
+    }
+    if i % 2 == 0 {
+        return 58368;
+    }
+    let slot = i / 2;
+    let pages = size / PAGE_WORDS;
+    ((slot % 64 + slot / 64 % 4) % pages % 16384) as u16
+}
+
 // Registers and control words of the base machine.
 pub(crate) fn base_state() -> [u16; STATE_WORDS] {
     let mut flat = [0u16; STATE_WORDS];
@@ -58,12 +71,15 @@ pub(crate) fn base_state() -> [u16; STATE_WORDS] {
     flat
 }
 
-// A word of the base machine, by kind: 1 memory, 2 page tables, beside so much memory.
+// A word of the base machine, by kind: 1 memory, 2 page tables, 3 page tables of extended mode, beside so much memory.
 fn base_word(kind: u16, size: usize, i: usize) -> u16 {
     if kind == 1 {
         return pattern(i);
     }
-    entry(i, size)
+    if kind == 2 {
+        return entry(i, size);
+    }
+    long_entry(i, size)
 }
 
 // All words of a kind, beside so much memory.

@@ -24,6 +24,19 @@ mod numbers;
 mod operation;
 mod show;
 
+// The extended flag among a state's words: the last.
+const EXTENDED: usize = STATE_WORDS - 1;
+
+// Whether a case starts from the base machine of extended mode: its operation's number has 8 more then.
+fn extended(words: &[u64], at: usize) -> u16
+    ensures { λ x. ⌜ x ≤ 1 ⌝ }
+{
+    if get(words, at, 1) < 8 {
+        return 0;
+    }
+    1
+}
+
 // The base machine with a case's changes.
 fn prepare(
     words: &[u64],
@@ -33,8 +46,10 @@ fn prepare(
     tables: &mut [u16],
 ) {
     let size = mem.len();
+    let x = extended(words, at);
     fill(1, size, mem);
-    fill(2, size, tables);
+    fill(2 + x, size, tables);
+    flat[EXTENDED] = x;
     change_all(words, at, flat, mem, tables);
 }
 
@@ -101,10 +116,10 @@ fn memory_words() -> [u16; 525312]
     [0; 525312]
 }
 
-fn table_words() -> [u16; 512]
-    ensures { λ r. ⌜ 512 ≡ length r ⌝ }
+fn table_words() -> [u16; 1024]
+    ensures { λ r. ⌜ 1024 ≡ length r ⌝ }
 {
-    [0; 512]
+    [0; 1024]
 }
 
 fn output_words() -> [u16; 70000]

@@ -163,7 +163,7 @@ pub(crate) fn act(
     let s = state_in(flat);
     let a = get(words, at, 5);
     let n = within(a, out);
-    match get(words, at, 1) {
+    match get(words, at, 1) % 8 {
         0 => step(s, mem, tables),
         1 => ran(operations::runs::through(s, mem, tables, a)),
         2 => ran(operations::runs::to_interrupt(s, mem, tables, a)),

@@ -27,11 +27,11 @@ module _ (m t : List ℕ) (h : sizesFit m t ≡ true) where
   memory-most =
       leb-true (length m) largestMemory
       (and-right (eqb (length m % pageWords) 0 && leb pageWords (length m)) (leb (length m) largestMemory)
-      (and-left (memorySize (length m)) (eqb (length t) 256) h))
+      (and-left (memorySize (length m)) (eqb (length t) tableWords) h))
 
   pub tables-all : length t ≡ tableWords
   unfolding sizesFit
-  tables-all = eqb-true (length t) 256 (and-right (memorySize (length m)) (eqb (length t) 256) h)
+  tables-all = eqb-true (length t) tableWords (and-right (memorySize (length m)) (eqb (length t) tableWords) h)
 
 pub sizes-of : (s : State) (m t : List ℕ) → stateAnswer s m t ≡ Done → sizesFit m t ≡ true
 unfolding stateAnswer

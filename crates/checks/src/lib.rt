@@ -24,7 +24,7 @@ use isa::machine::State;
 
 pub mod answers;
 
-// Pages of 1,024 words, at least one, at most 524,288 words.
+// Pages of 1,024 words, at least one, at most 16,777,216 words.
 fn memory_size(n: usize) -> bool
     ensures { λ r. ⌜ r ≡ memorySize n ⌝ }
 {
@@ -104,19 +104,30 @@ fn status_fits(c: Control) -> bool
     false
 }
 
-// IIE and the paging status.
-fn masks_fit(c: Control) -> bool
-    ensures { λ r. ⌜ r ≡ (interruptBits (c .iie) && statusInRange c) ⌝ }
+// The paging status and the extended flag, 0 or 1.
+fn behind_fits(c: Control) -> bool
+    ensures { λ r. ⌜ r ≡ (statusInRange c && ltb (c .extended) 2) ⌝ }
 {
-    if interrupt_bits(c.iie) {
-        return status_fits(c);
+    if status_fits(c) {
+        return c.extended < 2;
     }
     false
 }
 
-// IID, IIE and the paging status.
+// IIE, the paging status and the extended flag.
+fn masks_fit(c: Control) -> bool
+    ensures { λ r. ⌜ r ≡ (interruptBits (c .iie) && statusInRange c && ltb (c .extended) 2) ⌝ }
+{
+    if interrupt_bits(c.iie) {
+        return behind_fits(c);
+    }
+    false
+}
+
+// IID, IIE, the paging status and the extended flag.
 fn registers_fit(c: Control) -> bool
-    ensures { λ r. ⌜ r ≡ (interruptBits (c .iid) && interruptBits (c .iie) && statusInRange c) ⌝ }
+    ensures { λ r. ⌜ r ≡ (interruptBits (c .iid) && interruptBits (c .iie) && statusInRange c
+        && ltb (c .extended) 2) ⌝ }
 {
     if interrupt_bits(c.iid) {
         return masks_fit(c);
@@ -124,10 +135,11 @@ fn registers_fit(c: Control) -> bool
     false
 }
 
-// PVL, IID, IIE and the paging status.
+// PVL, IID, IIE, the paging status and the extended flag.
 fn numbers_fit(c: Control) -> bool
     ensures { λ r. ⌜ r
-        ≡ (ltb (c .pvl) levelCount && interruptBits (c .iid) && interruptBits (c .iie) && statusInRange c) ⌝ }
+        ≡ (ltb (c .pvl) levelCount && interruptBits (c .iid) && interruptBits (c .iie) && statusInRange c
+        && ltb (c .extended) 2) ⌝ }
 {
     if c.pvl < LEVELS {
         return registers_fit(c);
@@ -135,7 +147,7 @@ fn numbers_fit(c: Control) -> bool
     false
 }
 
-// The control words 1 to 9 and 26.
+// The control words 1 to 9, 26 and 27.
 fn control_in_range(c: Control) -> bool
     ensures { λ r. ⌜ r ≡ controlInRange c ⌝ }
 {

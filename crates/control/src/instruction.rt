@@ -1,8 +1,8 @@
-// ION to MST.
+// ION to MST, SEX and REX.
 ghost use mathlib.Core.Path.{_≡_};
 ghost use Prim.Native.Nat.{_<_};
-ghost use Rattle.isa.specs.Machine.{levelCount};
-ghost use Rattle.isa.specs.System.{waited, switched, controlled};
+ghost use Rattle.isa.specs.Machine.{levelCount, withControl};
+ghost use Rattle.isa.specs.System.{waited, switched, withExtended, controlled};
 use crate::internal;
 use isa::instruction::ControlOp;
 use isa::machine::Control;
@@ -35,6 +35,15 @@ fn switched(c: Core, i: u16, p: u16) -> Core
     c.with_control(k)
 }
 
+// The extended flag.
+fn with_extended(c: Core, x: u16) -> Core
+    ensures { λ r. ⌜ r ≡ withControl c (withExtended (c .control) x) ⌝ }
+{
+    let mut k = c.control;
+    k.extended = x;
+    c.with_control(k)
+}
+
 // The core c at the level, of which P is one further, after the instruction.
 pub fn controlled(level: u16, c: Core, o: ControlOp) -> Core
     requires { ⌜ level < levelCount ⌝ }
@@ -48,6 +57,8 @@ pub fn controlled(level: u16, c: Core, o: ControlOp) -> Core
         ControlOp::Pof => switched(c, k.interrupts, 0),
         ControlOp::Pion => switched(c, 1, 1),
         ControlOp::Piof => switched(c, 0, 0),
+        ControlOp::Sex => with_extended(c, 1),
+        ControlOp::Rex => with_extended(c, 0),
         ControlOp::Wait => c.with_control(waited(level, k)),
         ControlOp::Tra(r) => internal::read(level, c, r),
         ControlOp::Trr(r) => internal::written(c, r),

@@ -21,6 +21,7 @@ fn status_word(level: u16, k: Control, sts: u16) -> u16
 {
     k.interrupts % 2 * 0o100000
         + k.paging % 2 * 0o040000
+        + k.extended % 2 * 0o020000
         + 0o010000
         + level % LEVELS * 0o400
         + sts % STATUS_RANGE

@@ -10,7 +10,7 @@ use borrow.Author.Tests.{ltb-true, ltb-false, eqb-true}
 use Rattle.isa.proofs.Tests.{no-both, either, decided, and-left, and-right}
 use Rattle.isa.specs.Machine.{bit}
 use Rattle.isa.specs.Decode.{decode, rows, byCode, byNumber, sourceOf, traOf, trrOf, maskedOf, switchOf, srbOf}
-use Rattle.isa.specs.Decode.{lrbOf, shiftOf}
+use Rattle.isa.specs.Decode.{lrbOf, shiftOf, transferOf}
 use Rattle.isa.specs.declared.instruction.ControlOp.{ControlOp}
 use Rattle.isa.specs.declared.instruction.Instruction.{Instruction}
 use Rattle.isa.specs.declared.instruction.Instruction.the-variants.{Unprivileged, Privileged, Execute, Monitor, Illegal}
@@ -87,6 +87,10 @@ plain-switch : (n : ℕ) → plain (switchOf n) ≡ true
 unfolding switchOf
 plain-switch n = plain-table _ n refl
 
+plain-transfer : (w : ℕ) → plain (transferOf w) ≡ true
+unfolding transferOf
+plain-transfer w = plain-table _ (w % 8) refl
+
 plain-srb : (w : ℕ) → plain (srbOf w) ≡ true
 unfolding srbOf
 plain-srb w = either (λ (i : Instruction). plain i ≡ true) (eqb (w % 8) 2) refl refl
@@ -103,7 +107,7 @@ pub not-exr : (w : ℕ) → (w / 64 ≡ 0o1406 → ⊥) → Other ≡ exrOf (dec
 unfolding decode
 not-exr w o =
     let h : plainBut 0o140600 0o140700 0 Illegal (rows w) ≡ true =
-    simp (plain-tra, plain-trr, plain-masked, plain-switch, plain-srb, plain-lrb, plain-shift) in
+    simp (plain-transfer, plain-tra, plain-trr, plain-masked, plain-switch, plain-srb, plain-lrb, plain-shift) in
     is-other (byCode Illegal (rows w) w)
     (plain-other 0o140600 0o140700 0 Illegal (rows w) w h zero-le (λ a b. o (omega arith)))
 

@@ -1,6 +1,6 @@
 -- Tables by first codes and by numbers: what a table gives for a number that a match has sorted, for any table.
 -- Assumes nothing.
-use Prim.Native.Nat.{ℕ, zero, suc, _/_, _%_, _≤_, zero-le}
+use Prim.Native.Nat.{ℕ, zero, suc, _/_, _<_, _≤_, zero-le}
 use native.Mathlib.Omega.{arith}
 use mathlib.Core.Path.{_≡_, refl, sym, ap, _∙_}
 use mathlib.Core.List.{List, [], _∷_}
@@ -15,7 +15,7 @@ use Rattle.word_class.specs.Classes.{illegalClass, classOf, byClass}
 use Rattle.word_class.proofs.Codes.{lookup, computed, Excluded, unserved, no-code}
 use Rattle.word_class.proofs.Classes.{by-class}
 
--- ---- a table by the low six bits
+-- ---- a table by the low bits
 
 module _ {A : Type 0} where
   -- what it gives for the code k, which n is
@@ -36,9 +36,9 @@ is-illegal (Execute r) h = absurd (no-both h)
 is-illegal (Monitor d) h = absurd (no-both h)
 is-illegal Illegal h = refl
 
-pub no-low-code : (xs : List ℕ) (rs : List (ℕ × Instruction)) (w : ℕ) (Known : Type 0)
-    → unserved Illegal illegal rs xs 0 64 ≡ true → Excluded Known xs (w % 64) → Illegal ≡ byCode Illegal rs (w % 64)
-no-low-code xs rs w Known p h = no-code Illegal illegal rs is-illegal xs 0 64 (w % 64) Known p h zero-le (omega arith)
+pub no-low-code : (k : ℕ) (xs : List ℕ) (rs : List (ℕ × Instruction)) (n : ℕ) (Known : Type 0) → n < k
+    → unserved Illegal illegal rs xs 0 k ≡ true → Excluded Known xs n → Illegal ≡ byCode Illegal rs n
+no-low-code k xs rs n Known l p h = no-code Illegal illegal rs is-illegal xs 0 k n Known p h zero-le (omega arith)
 
 -- ---- a field's values by their numbers
 

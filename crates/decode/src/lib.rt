@@ -13,6 +13,7 @@ use crate::privileged::masked_of;
 use crate::privileged::srb_of;
 use crate::privileged::switch_of;
 use crate::privileged::tra_of;
+use crate::privileged::transfer_of;
 use crate::privileged::trr_of;
 use crate::user::add_argument;
 use crate::user::adding;
@@ -68,7 +69,8 @@ pub fn decode(classes: &[u8], w: u16) -> Instruction
         // 130000 JAP to 133400 JXN
         18 => jump(w),
         19 => memory(MemoryOp::Jpl, w),
-        // The skips, of which bits 7 and 6 are zero, and between them EXR, RMPY, RDIV, LBYT, SBYT, MIX3, IDENT.
+        // The skips, of which bits 7 and 6 are zero, and between them EXR, RMPY, RDIV, LBYT, SBYT, MIX3, LDATX to
+        // STDTX, IDENT.
         20 => skip(Relation::Eql, w),
         21 => skip(Relation::Geq, w),
         22 => Instruction::Execute(source_of(w)),
@@ -82,38 +84,40 @@ pub fn decode(classes: &[u8], w: u16) -> Instruction
         30 => Instruction::Unprivileged(User::StoreByte),
         31 => skip(Relation::Lst, w),
         32 => Instruction::Unprivileged(User::Mix3),
-        33 => skip(Relation::Mlst, w),
-        34 => ident(w),
+        33 => transfer_of(w),
+        34 => skip(Relation::Mlst, w),
+        35 => ident(w),
         // The register operations: 146000 is RADD, 146400 with AD1, 147000 with ADC, 147400 with both.
-        35 => logic(LogicOp::Swap, w),
-        36 => logic(LogicOp::Rand, w),
-        37 => logic(LogicOp::Rexo, w),
-        38 => logic(LogicOp::Rora, w),
-        39 => adding(CarryIn::NoCarry, w),
-        40 => adding(CarryIn::One, w),
-        41 => adding(CarryIn::Previous, w),
-        42 => Instruction::Unprivileged(User::NoOperation),
-        // TRA, TRR, MCL and MST of an internal register; 150400 to 150477 the switches, IOXT, EXAM and DEPO.
-        43 => tra_of(w),
-        44 => trr_of(w),
-        45 => masked_of(false, w),
-        46 => masked_of(true, w),
-        47 => switch_of(w),
+        36 => logic(LogicOp::Swap, w),
+        37 => logic(LogicOp::Rand, w),
+        38 => logic(LogicOp::Rexo, w),
+        39 => logic(LogicOp::Rora, w),
+        40 => adding(CarryIn::NoCarry, w),
+        41 => adding(CarryIn::One, w),
+        42 => adding(CarryIn::Previous, w),
+        43 => Instruction::Unprivileged(User::NoOperation),
+        // TRA, TRR, MCL and MST of an internal register; 150400 to 150477 the switches, SEX, REX, IOXT,
+        // EXAM and DEPO.
+        44 => tra_of(w),
+        45 => trr_of(w),
+        46 => masked_of(false, w),
+        47 => masked_of(true, w),
+        48 => switch_of(w),
         // WAIT, SRB, LRB, MON, IRW, IRR.
-        48 => Instruction::Privileged(System::Control(ControlOp::Wait)),
-        49 => srb_of(w),
-        50 => lrb_of(w),
-        51 => monitor(w),
-        52 => irw(w),
-        53 => irr(w),
+        49 => Instruction::Privileged(System::Control(ControlOp::Wait)),
+        50 => srb_of(w),
+        51 => lrb_of(w),
+        52 => monitor(w),
+        53 => irw(w),
+        54 => irr(w),
         // 154000 SHT to 157600 SAD: the shifts.
-        54 => shift_of(w),
+        55 => shift_of(w),
         // IOX.
-        55 => iox(w),
+        56 => iox(w),
         // SAB, SAA, SAT, SAX; AAB, AAA, AAT, AAX; 174000 BSET ZRO to 177600 BORA.
-        56 => set_argument(w),
-        57 => add_argument(w),
-        58 => bit_instruction(w),
+        57 => set_argument(w),
+        58 => add_argument(w),
+        59 => bit_instruction(w),
         // Every other code.
         _ => Instruction::Illegal,
     }

@@ -1,11 +1,12 @@
 // Privileged instructions with their fields.
-ghost use Prim.Native.Nat.{_%_};
+ghost use Prim.Native.Nat.{_/_, _%_};
 ghost use mathlib.Core.Path.{_≡_};
 ghost use mathlib.Core.Bool.{cond};
 ghost use Rattle.isa.specs.declared.instruction.ControlOp.the-variants.{Tra, Trr, Mcl, Mst};
-ghost use Rattle.isa.specs.declared.instruction.System.the-variants.{Irr, Irw, Iox, Ident};
+ghost use Rattle.isa.specs.declared.instruction.System.the-variants.{Irr, Irw, Physical, Iox, Ident};
 ghost use Rattle.isa.specs.declared.instruction.Instruction.the-variants.{Privileged};
-ghost use Rattle.isa.specs.Decode.{control, traOf, trrOf, maskedOf, switchOf, srbOf, lrbOf, fourOf, destinationOf};
+ghost use Rattle.isa.specs.Decode.{control, traOf, trrOf, maskedOf, switchOf, transferOf, srbOf, lrbOf, fourOf};
+ghost use Rattle.isa.specs.Decode.{destinationOf};
 use crate::fields::destination_of;
 use crate::fields::four_of;
 use isa::instruction::ControlOp;
@@ -13,6 +14,7 @@ use isa::instruction::Instruction;
 use isa::instruction::Maskable;
 use isa::instruction::Readable;
 use isa::instruction::System;
+use isa::instruction::Transfer;
 use isa::instruction::Writable;
 
 // An instruction on the running level and the control words.
@@ -89,7 +91,7 @@ pub fn masked_of(set: bool, w: u16) -> Instruction
     }
 }
 
-// 150400 to 150477: the switches, IOXT, EXAM and DEPO.
+// 150400 to 150477: the switches, SEX, REX, IOXT, EXAM and DEPO.
 pub fn switch_of(w: u16) -> Instruction
     ensures { λ r. ⌜ r ≡ switchOf (w % 64) ⌝ }
 {
@@ -98,11 +100,36 @@ pub fn switch_of(w: u16) -> Instruction
         0o02 => control(ControlOp::Ion),
         0o04 => control(ControlOp::Pof),
         0o05 => control(ControlOp::Piof),
+        0o06 => control(ControlOp::Sex),
+        0o07 => control(ControlOp::Rex),
         0o10 => control(ControlOp::Pon),
         0o12 => control(ControlOp::Pion),
         0o15 => Instruction::Privileged(System::Ioxt),
         0o16 => Instruction::Privileged(System::Exam),
         0o17 => Instruction::Privileged(System::Depo),
+        _ => Instruction::Illegal,
+    }
+}
+
+// An instruction by T and X, of a displacement.
+fn physical(o: Transfer, w: u16) -> Instruction
+    ensures { λ r. ⌜ r ≡ Privileged (Physical o (w / 8 % 8)) ⌝ }
+{
+    Instruction::Privileged(System::Physical(o, w / 8 % 8))
+}
+
+// LDATX to STDTX, by the low three bits.
+pub fn transfer_of(w: u16) -> Instruction
+    ensures { λ r. ⌜ r ≡ transferOf w ⌝ }
+{
+    match w % 8 {
+        0 => physical(Transfer::Ldatx, w),
+        1 => physical(Transfer::Ldxtx, w),
+        2 => physical(Transfer::Lddtx, w),
+        3 => physical(Transfer::Ldbtx, w),
+        4 => physical(Transfer::Statx, w),
+        5 => physical(Transfer::Stztx, w),
+        6 => physical(Transfer::Stdtx, w),
         _ => Instruction::Illegal,
     }
 }

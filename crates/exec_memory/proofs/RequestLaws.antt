@@ -104,7 +104,7 @@ unfolding translate
 read-loads t words r alternate a =
     let i = slotOf (tableOf r alternate) a in
     either LoadOnly (inWindow r a) tt
-    (either LoadOnly (r .paging) (judged-loads (entryAt t i) i words (r .ring) a) (within-loads words a))
+    (either LoadOnly (r .paging) (judged-loads (entryAt (r .extended) t i) i words (r .ring) a) (within-loads words a))
 
 -- accesses to read
 abbrev pub AllRead : List Access → Type 0

@@ -351,16 +351,17 @@ judged-found r e slot words a out =
 
 -- so a passed fetch with paging on
 pub fetch-found : (t : List ℕ) (words : ℕ) (r : Rights) (a : ℕ) → r .paging ≡ true
-    → FetchBy r (entryAt t (slotOf (r .normal) a)) a (translate t words r (access Fetch false a))
+    → FetchBy r (entryAt (r .extended) t (slotOf (r .normal) a)) a (translate t words r (access Fetch false a))
 unfolding translate
 fetch-found t words r a h =
     let i = slotOf (r .normal) a in
-    let P = FetchBy r (entryAt t i) a in
+    let e = entryAt (r .extended) t i in
+    let P = FetchBy r e a in
     decided P (inWindow r a) (λ q. tt)
     (λ q.
-    subst (λ (b : Bool). P (cond b (judged (entryAt t i) i words (r .ring) Fetch a) (withinMemory words Fetch a)))
+    subst (λ (b : Bool). P (cond b (judged e i words (r .ring) Fetch a) (withinMemory words Fetch a)))
     (sym h)
-    (judged-found r (entryAt t i) i words a q))
+    (judged-found r e i words a q))
 
 -- the PCR after a fetch from memory with paging on
 lowered-ring : (f : File) (p : ℕ) (k : Control) (ring : ℕ) → ring ≤ ringOf p
@@ -376,8 +377,8 @@ lowered-ring f p k ring h =
 
 -- what the code makes of the ring is what the definition makes of the PCR
 pub ring-is : (f : File) (p : ℕ) (k : Control) (t : List ℕ) (words a : ℕ) {r : Rights} {x : Translation} {ring : ℕ}
-    → levelRights p (k .paging) ≡ r → x ≡ translate t words r (access Fetch false a)
-    → ring ≡ entryAt t (slotOf (r .normal) a) .ring
+    → levelRights p (k .paging) (k .extended) ≡ r → x ≡ translate t words r (access Fetch false a)
+    → ring ≡ entryAt (r .extended) t (slotOf (r .normal) a) .ring
     → afterFetch (levelCore f p k) ring x ≡ levelCore f (loweredPcr p (ringAfter r ring x)) k
 ring-is f p k t words a {r} {x} {ring} e q h =
     subst
@@ -388,7 +389,7 @@ ring-is f p k t words a {r} {x} {ring} e q h =
     -- a fetch from memory passed by way of an entry of a ring that is not above the user's
     below : eqb (k .paging) 1 ≡ true → (i : ℕ) → x ≡ Load i → ring ≤ ringOf p
     below z i n =
-        let entry : Entry = entryAt t (slotOf (r .normal) a) in
+        let entry : Entry = entryAt (r .extended) t (slotOf (r .normal) a) in
         let on : r .paging ≡ true = ap (λ (y : Rights). y .paging) (sym e) ∙ z in
         let by : FoundBy r entry a i = subst (FetchBy r entry a) (sym q ∙ n) (fetch-found t words r a on) in
         rw h (subst (λ (y : Rights). entry .ring ≤ y .ring) (sym e) (by .allowed))
@@ -402,7 +403,7 @@ ring-is f p k t words a {r} {x} {ring} e q h =
     go : (b : Bool) → eqb (k .paging) 1 ≡ b → (y : Translation)
         → x ≡ y
         → afterFetch (levelCore f p k) ring y
-        ≡ levelCore f (loweredPcr p (ringAfter (levelRights p (k .paging)) ring y)) k
+        ≡ levelCore f (loweredPcr p (ringAfter (levelRights p (k .paging) (k .extended)) ring y)) k
     go b z NoAccess n = own (eqb (k .paging) 1)
     go true z (Load i) n = rw z (lowered-ring f p k ring (below z i n))
     go false z (Load i) n = rw z (own false)
@@ -415,7 +416,7 @@ ring-is f p k t words a {r} {x} {ring} e q h =
 
 -- two bits hold the ring after a fetch
 pub ring-small : (t : List ℕ) (a : ℕ) (r : Rights) (x : Translation) {ring : ℕ} → r .ring < 4
-    → ring ≡ entryAt t (slotOf (r .normal) a) .ring → ringAfter r ring x < 4
+    → ring ≡ entryAt (r .extended) t (slotOf (r .normal) a) .ring → ringAfter r ring x < 4
 ring-small t a r x {ring} h e = either (λ (n : ℕ). n < 4) (r .paging) (go x) h
   where
     entry : ring < 4

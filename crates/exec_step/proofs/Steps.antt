@@ -5,6 +5,7 @@ use mathlib.Core.Path.{_≡_, refl, ap, sym, _∙_}
 use mathlib.Core.Bool.{Bool, true, false, cond}
 use mathlib.Core.List.{List}
 use lib.ListN.{length}
+use lib.Dec.{eqb}
 use Rattle.isa.specs.Machine.{reg, next, normalTableOf}
 use Rattle.isa.specs.Decode.{decode}
 use Rattle.isa.specs.Address.{access}
@@ -36,7 +37,7 @@ use Rattle.exec_step.specs.declared.fetch.Page.{Page}
 use Rattle.exec_step.specs.Steps.{InstructionStage, followedBy, followed, ExecutedWord, StepOfLevel}
 
 -- the instruction that is executed is that of the word that was followed
-executed-followed : (f : File) (w : ℕ) → decode (followed (next f) w) ≡ executed f (decode w)
+pub executed-followed : (f : File) (w : ℕ) → decode (followed (next f) w) ≡ executed f (decode w)
 executed-followed f w = go (decode w) refl
   where
     go : (i : Instruction) → decode w ≡ i → decode (followedBy (next f) w (exrOf i)) ≡ executed f i
@@ -80,12 +81,12 @@ mark-flags t words r sts a = refl
 -- the tables v that it left
 pub record Fetched (f : File) (m t : List ℕ) (r : Rights) (ring : ℕ) (x : Translation) (n : ℕ)
     (v : List ℕ) : Type 0 where
-  pub entry : ring ≡ entryAt t (slotOf (r .normal) (reg f P)) .ring
+  pub entry : ring ≡ entryAt (r .extended) t (slotOf (r .normal) (reg f P)) .ring
   pub found : Found t (length m) r (access Fetch false (reg f P)) x n v
 
 module _ {f : File} {m t : List ℕ} {r : Rights} {ring : ℕ} {x : Translation} {n : ℕ} {v : List ℕ}
     (h : Fetched f m t r ring x n v) where
-  fetched-step : (l p : ℕ) (k : Control) (b : Bool) → passes x ≡ b → levelRights p (k .paging) ≡ r
+  fetched-step : (l p : ℕ) (k : Control) (b : Bool) → passes x ≡ b → levelRights p (k .paging) (k .extended) ≡ r
       → cond b
       (instructionStage l (afterFetch (levelCore f p k) ring x) m v (executed f (decode (wordAt m v x))))
       (failed (levelCore f p k) x m v)
@@ -106,16 +107,17 @@ module _ {f : File} {m t : List ℕ} {r : Rights} {ring : ℕ} {x : Translation}
       x-is =
           h .found .place
           ∙ ap (λ (y : Rights). translate t (length m) y (fetchOf c)) (sym e)
-          ∙ sym (fetch-flags t (length m) (levelRights p (k .paging)) (reg f Sts) (reg f P))
+          ∙ sym (fetch-flags t (length m) (levelRights p (k .paging) (k .extended)) (reg f Sts) (reg f P))
 
       v-is : v ≡ marked t (length m) (rightsOf c) (fetchOf c)
       v-is =
           h .found .marks
           ∙ ap (λ (y : Rights). marked t (length m) y (fetchOf c)) (sym e)
-          ∙ sym (mark-flags t (length m) (levelRights p (k .paging)) (reg f Sts) (reg f P))
+          ∙ sym (mark-flags t (length m) (levelRights p (k .paging) (k .extended)) (reg f Sts) (reg f P))
 
-      ring-in : ring ≡ entryAt t (slotOf (normalTableOf p) (reg f P)) .ring
-      ring-in = h .entry ∙ ap (λ (y : Rights). entryAt t (slotOf (y .normal) (reg f P)) .ring) (sym e)
+      ring-in : ring ≡ entryAt (eqb (k .extended) 1) t (slotOf (normalTableOf p) (reg f P)) .ring
+      ring-in =
+          h .entry ∙ ap (λ (y : Rights). entryAt (y .extended) t (slotOf (y .normal) (reg f P)) .ring) (sym e)
 
       whole : fetched l c m v ring x ≡ stepIn l c m t
       whole = λ i. fetched l c m (v-is i) (ring-in i) (x-is i)
@@ -131,8 +133,8 @@ module _ {f : File} {m t : List ℕ} {r : Rights} {ring : ℕ} {x : Translation}
   step-passed q w page e m′ t′ s below i g a j d l p k y =
       let small : q < 4 = rw i (ring-small t (reg f P) r x below (h .entry)) in
       let lower : ℕ = loweredPcr p q in
-      let rights : levelRights lower (k .paging) ≡ onRing r q =
-      ring-rights p q (k .paging) small ∙ ap (λ (u : Rights). onRing u q) y in
+      let rights : levelRights lower (k .paging) (k .extended) ≡ onRing r q =
+      ring-rights p q (k .paging) (k .extended) small ∙ ap (λ (u : Rights). onRing u q) y in
       let core : levelCore f lower k ≡ afterFetch (levelCore f p k) ring x =
       ap (λ (u : ℕ). levelCore f (loweredPcr p u) k) i
       ∙ sym (ring-is f p k t (length m) (reg f P) y (h .found .place) (h .entry)) in

@@ -25,13 +25,13 @@ pub record FetchOf (m t : List ℕ) (r : Rights) (a : ℕ) (g : FetchResult) (v 
   pub place : g .place ≡ translate t (length m) r (access ToFetch false a)
   pub marks : v ≡ marked t (length m) r (access ToFetch false a)
   pub word : g .word ≡ wordAt m v (g .place)
-  pub ring : g .ring ≡ ringAfter r (entryAt t (slotOf (r .normal) a) .ring) (g .place)
+  pub ring : g .ring ≡ ringAfter r (entryAt (r .extended) t (slotOf (r .normal) a) .ring) (g .place)
 
 -- ---- the kept page
 
 -- the entry of the page k by the normal table
 abbrev pub pageEntry : Rights → Page → List ℕ → Entry
-pageEntry r k t = entryAt t (r .normal * entriesInTable + k .number)
+pageEntry r k t = entryAt (r .extended) t (r .normal * entriesInTable + k .number)
 
 -- What a kept page k rests on, with so many words of memory, the rights r and the tables t: paging is on and the ring
 -- sees no page table; the page's entry permits a fetch, is marked, is of the ring itself, so that a fetch lowers

@@ -4,7 +4,8 @@ ghost use mathlib.Core.Path.{_≡_};
 ghost use Prim.Native.Nat.{_<_};
 ghost use lib.ListN.{length};
 ghost use Rattle.word_class.specs.Classes.{Sorts};
-ghost use Rattle.exec_step.specs.Steps.{InstructionStage, ExecutedWord, followed};
+ghost use Rattle.isa.specs.Decode.{decode};
+ghost use Rattle.exec_step.specs.Steps.{InstructionStage, FineAlone, ExecutedWord, followed};
 use decode::Exr;
 use decode::exr_of;
 use event::Ending;
@@ -31,6 +32,7 @@ fn instruction_stage(
     requires { ⌜ length (now tables) ≡ tableWords ⌝ }
     ensures { λ e. ⌜ InstructionStage f at r i (now (mem .entry)) (now (tables .entry)) e (now (mem .exit))
         (now (tables .exit)) ⌝ }
+    ensures { λ e. ⌜ FineAlone i e ⌝ }
 {
     match i {
         Instruction::Unprivileged(u) => user_stage(f, at, r, mem, tables, u),
@@ -67,6 +69,7 @@ pub fn executed_word(
     requires { ⌜ length (now tables) ≡ tableWords ⌝ }
     ensures { λ e. ⌜ ExecutedWord f at r w (now (mem .entry)) (now (tables .entry)) e (now (mem .exit))
         (now (tables .exit)) ⌝ }
+    ensures { λ e. ⌜ FineAlone (decode (followed f w)) e ⌝ }
 {
     let s = by_flags(r, f.get(Register::Sts));
     let i = decode::decode(classes, followed(f, w));

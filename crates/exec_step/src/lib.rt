@@ -3,7 +3,7 @@
 ghost use Rattle.isa.specs.Machine.{tableWords};
 ghost use mathlib.Core.Path.{_≡_};
 ghost use Prim.Native.Nat.{_<_};
-ghost use mathlib.Core.Bool.{false};
+ghost use mathlib.Core.Bool.{true, false};
 ghost use lib.ListN.{length};
 ghost use Rattle.isa.specs.Machine.{reg};
 ghost use Rattle.isa.specs.Address.{access};
@@ -14,6 +14,7 @@ ghost use Rattle.word_class.specs.Classes.{Sorts};
 ghost use Rattle.paging.specs.Levels.{onRing};
 ghost use Rattle.exec_step.specs.Fetches.{Kept, pageLeft};
 ghost use Rattle.exec_step.specs.Steps.{StepOfLevel};
+ghost use Rattle.event.specs.Events.{isFine};
 use crate::fetch::Page;
 use crate::fetch::fetch;
 use crate::fetch::no_page;
@@ -57,7 +58,8 @@ pub fn step_in(
         (now (tables .exit)) ⌝ }
     ensures { λ s. ⌜ s .page ≡ pageLeft (length (now (mem .entry))) (onRing r (s .ring)) k (reg f P)
         (translate (now (tables .entry)) (length (now (mem .entry))) r (access Fetch false (reg f P))) ⌝ }
-    ensures { λ s. ⌜ Kept (length (now (mem .exit))) (onRing r (s .ring)) (s .page) (now (tables .exit)) ⌝ }
+    ensures { λ s. ⌜ (isFine (s .event) ≡ true
+        → Kept (length (now (mem .exit))) (onRing r (s .ring)) (s .page) (now (tables .exit))) ⌝ }
 {
     let at = f.get(Register::P);
     let g = fetch(at, r, k, mem, tables);

@@ -74,7 +74,7 @@ pub fn fill(kind: u16, image: &[u16], target: &mut [u16])
 // Control words in image order.
 pub type ControlWords = [u16; CONTROL_COUNT];
 
-// Control words 1 to 9 and 26, of all control words in image order.
+// Control words 1 to 9, 26 and 27, of all control words in image order.
 pub fn control_of(words: &[u16]) -> Control
     requires { ⌜ length (now words) ≡ controlCount ⌝ }
     ensures { λ k. ⌜ k ≡ controlOf (stateOf [] (now (words .entry))) ⌝ }
@@ -90,6 +90,7 @@ pub fn control_of(words: &[u16]) -> Control
         iie: words[8],
         pgs: words[9],
         held: words[FIRST_ADDED],
+        extended: words[FIRST_ADDED + 1],
     }
 }
 
@@ -112,7 +113,7 @@ pub fn state_of(regs: RegisterWords, words: ControlWords) -> State
     State::with(words[0], k, regs, pcrs)
 }
 
-// The state of 155 words in image order: the registers, then the control words.
+// The state of 156 words in image order: the registers, then the control words.
 pub fn state_in(words: &[u16]) -> State
     requires { ⌜ length (now words) ≡ stateWords ⌝ }
     ensures { λ s. ⌜ s ≡ stateOf (take registerWords (now (words .entry))) (drop registerWords (now (words .entry))) ⌝ }

@@ -107,7 +107,7 @@ pub type AddedWords = [u16; ADDED_COUNT];
 pub fn added_of(k: Control) -> AddedWords
     ensures { λ r. ⌜ r ≡ addedWords k ⌝ }
 {
-    [k.held]
+    [k.held, k.extended]
 }
 
 // Contents and memory, at the front of the output.

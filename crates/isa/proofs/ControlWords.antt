@@ -1,6 +1,6 @@
 -- The control words of a state in image order, taken apart again: the PCRs, the words behind them, and the state.
 -- Assumes nothing.
-use Prim.Native.Nat.{ℕ}
+use Prim.Native.Nat.{ℕ, _+_}
 use mathlib.Core.Path.{_≡_, sym, ap, _∙_}
 use mathlib.Core.List.{List}
 use native.Mathlib.Omega.{arith}
@@ -20,10 +20,10 @@ module _ (s : State) (h : length (s .pcr) ≡ levelCount) where
   pub control-length : length (controlWords s) ≡ controlCount
   control-length = omega (arith, h, length-append (s .pcr) (addedWords (controlOf s)))
 
-  -- the first word behind the PCRs
-  held-of-words : getD (controlWords s) firstAdded 0 ≡ s .added .held
-  held-of-words =
-      sym (getD-drop firstAdded (controlWords s) 0 0) ∙ ap (λ (ws : List ℕ). getD ws 0 0) added-of-words
+  -- the i-th word behind the PCRs
+  word-of-added : (i : ℕ) → getD (controlWords s) (firstAdded + i) 0 ≡ getD (addedWords (controlOf s)) i 0
+  word-of-added i =
+      sym (getD-drop firstAdded (controlWords s) i 0) ∙ ap (λ (ws : List ℕ). getD ws i 0) added-of-words
 
   pub state-of-words : stateOf (s .regs) (controlWords s) ≡ s
   state-of-words =
@@ -32,5 +32,5 @@ module _ (s : State) (h : length (s .pcr) ≡ levelCount) where
         level = s .level;
         control = s .control;
         pcr = pcrs-of-words i;
-        added = record { held = held-of-words i };
+        added = record { held = word-of-added 0 i; extended = word-of-added 1 i };
       }

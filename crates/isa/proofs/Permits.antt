@@ -51,16 +51,16 @@ module _ (e f : Entry) (ring ring₀ page : ℕ) (h : MarksAlone e f) (l : ring 
       (sym (h .write) ∙ and-right (permits e ring page) (e .write) q)
 
 -- an entry of either-table table that passes a test
-module _ (f : Entry → Bool) (t : List ℕ) (a b : ℕ) where
-  pub either-table : (table v : ℕ) → (table ≡ a) ⊎ (table ≡ b) → v < 64 → f (entryAt t (table * 64 + v)) ≡ true
-      → inEither f t a b ≡ true
+module _ (f : Entry → Bool) (form : Bool) (t : List ℕ) (a b : ℕ) where
+  pub either-table : (table v : ℕ) → (table ≡ a) ⊎ (table ≡ b) → v < 64 → f (entryAt form t (table * 64 + v)) ≡ true
+      → inEither f form t a b ≡ true
   unfolding inEither
   either-table table v (inl q) l h =
-      or-left (someEntry f t a) (someEntry f t b)
-      (some-below 64 v (λ (x : ℕ). f (entryAt t (a * 64 + x))) l (rw q at h))
+      or-left (someEntry f form t a) (someEntry f form t b)
+      (some-below 64 v (λ (x : ℕ). f (entryAt form t (a * 64 + x))) l (rw q at h))
   either-table table v (inr q) l h =
-      or-right (someEntry f t a) (someEntry f t b)
-      (some-below 64 v (λ (x : ℕ). f (entryAt t (b * 64 + x))) l (rw q at h))
+      or-right (someEntry f form t a) (someEntry f form t b)
+      (some-below 64 v (λ (x : ℕ). f (entryAt form t (b * 64 + x))) l (rw q at h))
 
 -- a test that implies another, at one of two, at some number, at some entry
 or-both : (x y u v : Bool) → (x ≡ true → u ≡ true) → (y ≡ true → v ≡ true) → (x || y) ≡ true → (u || v) ≡ true
@@ -71,21 +71,20 @@ some-both : (n : ℕ) (f g : ℕ → Bool) → ((v : ℕ) → f v ≡ true → g
 some-both zero f g h q = q
 some-both (suc n) f g h q = or-both (f n) (someBelow n f) (g n) (someBelow n g) (h n) (some-both n f g h) q
 
-either-both : (f g : Entry → Bool) (t : List ℕ) (a b : ℕ) → ((e : Entry) → f e ≡ true → g e ≡ true)
-    → inEither f t a b ≡ true → inEither g t a b ≡ true
+either-both : (f g : Entry → Bool) (form : Bool) (t : List ℕ) (a b : ℕ) → ((e : Entry) → f e ≡ true → g e ≡ true)
+    → inEither f form t a b ≡ true → inEither g form t a b ≡ true
 unfolding inEither
-either-both f g t a b h =
-    or-both (someEntry f t a) (someEntry f t b) (someEntry g t a) (someEntry g t b)
-    (some-both 64 (λ (v : ℕ). f (entryAt t (a * 64 + v))) (λ (v : ℕ). g (entryAt t (a * 64 + v)))
-    (λ v. h (entryAt t (a * 64 + v))))
-    (some-both 64 (λ (v : ℕ). f (entryAt t (b * 64 + v))) (λ (v : ℕ). g (entryAt t (b * 64 + v)))
-    (λ v. h (entryAt t (b * 64 + v))))
+either-both f g form t a b h =
+    let at : ℕ → ℕ → Entry = λ table v. entryAt form t (table * 64 + v) in
+    or-both (someEntry f form t a) (someEntry f form t b) (someEntry g form t a) (someEntry g form t b)
+    (some-both 64 (λ (v : ℕ). f (at a v)) (λ (v : ℕ). g (at a v)) (λ v. h (at a v)))
+    (some-both 64 (λ (v : ℕ). f (at b v)) (λ (v : ℕ). g (at b v)) (λ v. h (at b v)))
 
 -- a page that is permitted for writing is permitted
-pub writing-permitted : (t : List ℕ) (a b ring page : ℕ) → permittedWriting t a b ring page ≡ true
-    → permitted t a b ring page ≡ true
-writing-permitted t a b ring page =
-    either-both (λ (e : Entry). permitsWriting e ring page) (λ (e : Entry). permits e ring page) t a b
+pub writing-permitted : (form : Bool) (t : List ℕ) (a b ring page : ℕ) → permittedWriting form t a b ring page ≡ true
+    → permitted form t a b ring page ≡ true
+writing-permitted form t a b ring page =
+    either-both (λ (e : Entry). permitsWriting e ring page) (λ (e : Entry). permits e ring page) form t a b
     (λ e. and-left (permits e ring page) (e .write))
 
 -- ---- the tests of an access

@@ -1,30 +1,22 @@
--- What accesses and instructions leave of the page tables: with paging on and a ring below 3, marks alone.
+-- What accesses and unprivileged instructions leave of the page tables: with paging on and a ring below 3, marks alone.
 -- Assumes nothing.
 use Prim.Native.Nat.{ℕ, _<_}
 use mathlib.Core.Path.{_≡_, refl, sym, subst}
-use mathlib.Core.Bool.{true, not, _&&_}
+use mathlib.Core.Bool.{Bool, true, not, _&&_}
 use mathlib.Core.List.{List, [], _∷_}
 use lib.ListN.{getD, set, drop, length}
-use lib.Dec.{ltb}
 use borrow.Author.Tests.{eq-eqb}
-use Rattle.isa.specs.Machine.{nextCore, ringOf}
+use Rattle.isa.specs.Machine.{ringOf}
 use Rattle.isa.specs.Instructions.{Completed, complete, request, indirectRequest}
-use Rattle.isa.specs.Pages.{Entry, entryAt, slotOf, tableOf, judged, inWindow, translate, passes, markOf, marked}
-use Rattle.isa.specs.Pages.{Tested, testAll, wordsAt, storeAll, rightsOf}
-use Rattle.isa.specs.Step.{Part, operandsTested, operands, indirectTested, userStage, finished, systemStage}
-use Rattle.isa.specs.Step.{examined, deposited, physicalAddress, privileged, instructionStage}
+use Rattle.isa.specs.Pages.{Entry, entryAt, slotOf, tableOf, judged, inWindow, translate, passes, withMark}
+use Rattle.isa.specs.Pages.{marked, Tested, testAll, wordsAt, storeAll, rightsOf}
+use Rattle.isa.specs.Step.{Part, operandsTested, operands, indirectTested, userStage, finished}
 use Rattle.isa.specs.declared.access.Access.{Access}
 use Rattle.isa.specs.declared.access.AccessKind.{AccessKind}
 use Rattle.isa.specs.declared.access.Rights.{Rights}
 use Rattle.isa.specs.declared.access.Translation.{Translation}
 use Rattle.isa.specs.declared.access.Translation.the-variants.{NoAccess, Load, Store, LoadTable, StoreTable}
 use Rattle.isa.specs.declared.access.Translation.the-variants.{Protection, PageFault, OutOfRange}
-use Rattle.isa.specs.declared.instruction.Instruction.{Instruction}
-use Rattle.isa.specs.declared.instruction.Instruction.the-variants.{Unprivileged, Privileged, Execute, Monitor}
-use Rattle.isa.specs.declared.instruction.Instruction.the-variants.{Illegal}
-use Rattle.isa.specs.declared.instruction.System.{System}
-use Rattle.isa.specs.declared.instruction.System.the-variants.{Control, TraPgc, TrrPcr, Irr, Irw, Srb, Lrb, Exam}
-use Rattle.isa.specs.declared.instruction.System.the-variants.{Depo, Iox, Ioxt, Ident}
 use Rattle.isa.specs.declared.instruction.User.{User}
 use Rattle.isa.specs.declared.machine.Core.{Core}
 use Rattle.isa.proofs.Permits.{By, judged-by}
@@ -34,22 +26,22 @@ use Rattle.isa.proofs.Window.{no-window}
 -- ---- marks
 
 -- a property of the tables that marks keep
-abbrev pub Lasting : (List ℕ → Type 0) → Type 0
-Lasting K = (t : List ℕ) (i : ℕ) (k : AccessKind) → K t → K (set t i (markOf k (getD t i 0)))
+abbrev pub Lasting : Bool → (List ℕ → Type 0) → Type 0
+Lasting form K = (t : List ℕ) (i : ℕ) (k : AccessKind) → K t → K (withMark form t i k)
 
 -- .. the tests of an instruction's accesses keep
-module _ (K : List ℕ → Type 0) (mark : Lasting K) where
-  pub marked-keeps : (t : List ℕ) (words : ℕ) (r : Rights) (x : Access) → K t → K (marked t words r x)
+module _ (K : List ℕ → Type 0) (r : Rights) (mark : Lasting (r .extended) K) where
+  pub marked-keeps : (t : List ℕ) (words : ℕ) (x : Access) → K t → K (marked t words r x)
   unfolding marked
-  marked-keeps t words r x h =
+  marked-keeps t words x h =
       either K (r .paging && not (inWindow r (x .address)) && passes (translate t words r x))
       (mark t (slotOf (tableOf r (x .alternate)) (x .address)) (x .kind) h) h
 
-  pub tested-keeps : (xs : List Access) (t : List ℕ) (words : ℕ) (r : Rights) → K t → K (testAll t words r xs .tables)
-  tested-keeps [] t words r h = h
-  tested-keeps (x ∷ xs) t words r h =
+  pub tested-keeps : (xs : List Access) (t : List ℕ) (words : ℕ) → K t → K (testAll t words r xs .tables)
+  tested-keeps [] t words h = h
+  tested-keeps (x ∷ xs) t words h =
       either (λ (y : Tested). K (y .tables)) (passes (translate t words r x))
-      (tested-keeps xs (marked t words r x) words r (marked-keeps t words r x h)) h
+      (tested-keeps xs (marked t words r x) words (marked-keeps t words x h)) h
 
 -- ---- stores
 
@@ -95,9 +87,10 @@ module _ (words : ℕ) (r : Rights) (on : r .paging ≡ true) (low : r .ring < 3
   unfolding translate
   no-table t x =
       let i = slotOf (tableOf r (x .alternate)) (x .address) in
+      let e = entryAt (r .extended) t i in
       rw (no-window r (x .address) on low, on)
-      (by-entry (entryAt t i) (r .ring) (judged (entryAt t i) i words (r .ring) (x .kind) (x .address))
-      (judged-by (entryAt t i) i words (r .ring) (x .kind) (x .address)))
+      (by-entry e (r .ring) (judged e i words (r .ring) (x .kind) (x .address))
+      (judged-by e i words (r .ring) (x .kind) (x .address)))
 
   no-tables : (xs : List Access) (t : List ℕ) → NoTables (testAll t words r xs .places)
   no-tables [] t = tt
@@ -107,63 +100,34 @@ module _ (words : ℕ) (r : Rights) (on : r .paging ≡ true) (low : r .ring < 3
 
 -- ---- instructions
 
--- a privileged instruction leaves the tables to what is done outside the level
-pub system-tables : (l : ℕ) (c : Core) (m t : List ℕ) (q : System) → systemStage l c m t q .tables ≡ t
-unfolding examined deposited
-system-tables l c m t (Control o) = refl
-system-tables l c m t TraPgc = refl
-system-tables l c m t TrrPcr = refl
-system-tables l c m t (Irr n r) = refl
-system-tables l c m t (Irw n r) = refl
-system-tables l c m t (Srb n) = refl
-system-tables l c m t (Lrb n) = refl
-system-tables l c m t Exam =
-    either (λ (p : Part). p .tables ≡ t) (ltb (physicalAddress (c .file)) (length m)) refl refl
-system-tables l c m t Depo =
-    either (λ (p : Part). p .tables ≡ t) (ltb (physicalAddress (c .file)) (length m)) refl refl
-system-tables l c m t (Iox n) = refl
-system-tables l c m t Ioxt = refl
-system-tables l c m t (Ident n) = refl
+-- what marks keep, an unprivileged instruction keeps
+module _ (K : List ℕ → Type 0) (c : Core) (mark : Lasting (rightsOf c .extended) K) (on : c .control .paging ≡ 1)
+    (low : ringOf (c .pcr) < 3) where
+  abbrev Keeps : Part → Type 0
+  Keeps p = K (p .tables)
 
--- what marks keep, an instruction keeps
-module _ (K : List ℕ → Type 0) (mark : Lasting K) (c : Core) (on : c .control .paging ≡ 1) (low : ringOf (c .pcr) < 3)
-  where
-    abbrev Keeps : Part → Type 0
-    Keeps p = K (p .tables)
+  paging-on : rightsOf c .paging ≡ true
+  paging-on = eq-eqb (c .control .paging) 1 on
 
-    paging-on : rightsOf c .paging ≡ true
-    paging-on = eq-eqb (c .control .paging) 1 on
+  operands-keep : (m t : List ℕ) (u : User) (i : ℕ) → K t → Keeps (operands c m t u i)
+  unfolding operands operandsTested finished
+  operands-keep m t u i h =
+      let xs = request u (c .file) i in
+      let r : Tested = testAll t (length m) (rightsOf c) xs in
+      let marks : K (r .tables) = tested-keeps K (rightsOf c) mark xs t (length m) h in
+      let d : Completed = complete u (c .file) i (wordsAt m (r .tables) (r .places)) in
+      either Keeps (passes (r .fault))
+      (subst K
+      (sym (stored-tables m (r .tables) (r .places) (d .stores)
+      (no-tables (length m) (rightsOf c) paging-on low xs t)))
+      marks)
+      marks
 
-    operands-keep : (m t : List ℕ) (u : User) (i : ℕ) → K t → Keeps (operands c m t u i)
-    unfolding operands operandsTested finished
-    operands-keep m t u i h =
-        let xs = request u (c .file) i in
-        let r : Tested = testAll t (length m) (rightsOf c) xs in
-        let marks : K (r .tables) = tested-keeps K mark xs t (length m) (rightsOf c) h in
-        let d : Completed = complete u (c .file) i (wordsAt m (r .tables) (r .places)) in
-        either Keeps (passes (r .fault))
-        (subst K
-        (sym (stored-tables m (r .tables) (r .places) (d .stores)
-        (no-tables (length m) (rightsOf c) paging-on low xs t)))
-        marks)
-        marks
-
-    user-keeps : (m t : List ℕ) (u : User) → K t → Keeps (userStage c m t u)
-    unfolding userStage indirectTested
-    user-keeps m t u h =
-        let xs = indirectRequest u (c .file) in
-        let r : Tested = testAll t (length m) (rightsOf c) xs in
-        let marks : K (r .tables) = tested-keeps K mark xs t (length m) (rightsOf c) h in
-        either Keeps (passes (r .fault))
-        (operands-keep m (r .tables) u (getD (wordsAt m (r .tables) (r .places)) 0 0) marks) marks
-
-    pub instruction-keeps : (l : ℕ) (m t : List ℕ) (i : Instruction) → K t
-        → Keeps (instructionStage l c m t i)
-    unfolding instructionStage
-    instruction-keeps l m t (Unprivileged u) h = user-keeps m t u h
-    instruction-keeps l m t (Privileged q) h =
-        either Keeps (privileged c)
-        (subst K (sym (system-tables l (nextCore c) m t q)) h) h
-    instruction-keeps l m t (Execute s) h = h
-    instruction-keeps l m t (Monitor n) h = h
-    instruction-keeps l m t Illegal h = h
+  pub user-keeps : (m t : List ℕ) (u : User) → K t → Keeps (userStage c m t u)
+  unfolding userStage indirectTested
+  user-keeps m t u h =
+      let xs = indirectRequest u (c .file) in
+      let r : Tested = testAll t (length m) (rightsOf c) xs in
+      let marks : K (r .tables) = tested-keeps K (rightsOf c) mark xs t (length m) h in
+      either Keeps (passes (r .fault))
+      (operands-keep m (r .tables) u (getD (wordsAt m (r .tables) (r .places)) 0 0) marks) marks

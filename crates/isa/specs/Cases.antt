@@ -1,18 +1,20 @@
 -- Document 01, "Twelve cases shown with the definitions": one table, one theorem. Each row is what one step leaves, and
 -- what the document says that it leaves.
-use Prim.Native.Nat.{ℕ, _+_}
+use Prim.Native.Nat.{ℕ}
 use mathlib.Core.Path.{_≡_, refl}
 use mathlib.Core.List.{List, [], _∷_, _++_}
 use lib.ListN.{getD, replicate}
 use Rattle.isa.specs.Machine.{tableWords, fileAt, putFile, stateWith}
 use Rattle.isa.specs.Flags.{adder, withOverflow, withSum, productOverflow, divisionFails, leftOnce, rightOnce}
-use Rattle.isa.specs.Decode.{byCode, byNumber, decode, traOf, trrOf, maskedOf, switchOf, srbOf, lrbOf, shiftOf}
+use Rattle.isa.specs.Decode.{byCode, byNumber, decode, traOf, trrOf, maskedOf, switchOf, transferOf, srbOf}
+use Rattle.isa.specs.Decode.{lrbOf, shiftOf}
 use Rattle.isa.specs.Address.{firstAddress}
 use Rattle.isa.specs.Instructions.{divided}
 use Rattle.isa.specs.Pages.{withinMemory, judged, inWindow, translate, marked, lowered}
+use Rattle.isa.specs.Physical.{physicalPlace}
 use Rattle.isa.specs.Step.{Turn, step, interrupted, faulted, finished, operandsTested, operands, indirectTested}
-use Rattle.isa.specs.Step.{userStage, examined, deposited, instructionStage, fetched, stepIn, putOther}
-use Rattle.isa.specs.Step.{blockStored, blockLoaded, farStage, settled, changeDue, levelChanged}
+use Rattle.isa.specs.Step.{userStage, examined, deposited, transferStage, instructionStage, fetched, stepIn}
+use Rattle.isa.specs.Step.{putOther, blockStored, blockLoaded, farStage, settled, changeDue, levelChanged}
 use Rattle.isa.specs.declared.machine.Control.{Control}
 use Rattle.isa.specs.declared.machine.State.{State}
 
@@ -31,6 +33,7 @@ quiet paging = record {
   iie = 0;
   pgs = 0;
   held = 0;
+  extended = 0;
 }
 
 -- a machine on level 0, P 0, with the registers D, B, A and T and the paging switch and PCR of the level
@@ -44,7 +47,7 @@ memoryOf w v = w ∷ v ∷ replicate 1022 0
 
 -- page tables whose first two entries are these
 abbrev pub tablesOf : ℕ → ℕ → List ℕ
-tablesOf e f = e ∷ f ∷ replicate 254 0
+tablesOf e f = e ∷ f ∷ replicate 510 0
 
 -- one step with paging off: the word w at address 0, v at address 1
 abbrev pub bare : ℕ → ℕ → ℕ → ℕ → ℕ → ℕ → Turn
@@ -120,7 +123,8 @@ stated (r ∷ rs) = r .1 ∷ stated rs
 
 pub all-hold : given cases ≡ stated cases
 unfolding cases fileAt putFile adder withOverflow withSum productOverflow divisionFails leftOnce rightOnce byCode
-    byNumber decode traOf trrOf maskedOf switchOf srbOf lrbOf shiftOf firstAddress divided withinMemory judged inWindow
-    translate marked lowered step interrupted faulted finished operandsTested operands indirectTested userStage examined
-    deposited instructionStage fetched stepIn putOther blockStored blockLoaded farStage settled changeDue levelChanged
+    byNumber decode traOf trrOf maskedOf switchOf transferOf srbOf lrbOf shiftOf firstAddress divided withinMemory
+    judged inWindow translate marked lowered physicalPlace step interrupted faulted finished operandsTested operands
+    indirectTested userStage examined deposited transferStage instructionStage fetched stepIn putOther blockStored
+    blockLoaded farStage settled changeDue levelChanged
 all-hold = refl

@@ -44,10 +44,12 @@ use Rattle.isa.specs.declared.instruction.Writable.the-variants.{Pie as 
 use Rattle.isa.specs.declared.instruction.Maskable.{Maskable}
 use Rattle.isa.specs.declared.instruction.Maskable.the-variants.{Status as InStatus, Pid as InPid, Pie as InPie}
 use Rattle.isa.specs.declared.instruction.ControlOp.{ControlOp}
-use Rattle.isa.specs.declared.instruction.ControlOp.the-variants.{Ion, Iof, Pon, Pof, Pion, Piof, Wait, Tra}
-use Rattle.isa.specs.declared.instruction.ControlOp.the-variants.{Trr, Mcl, Mst}
+use Rattle.isa.specs.declared.instruction.ControlOp.the-variants.{Ion, Iof, Pon, Pof, Pion, Piof, Sex, Rex}
+use Rattle.isa.specs.declared.instruction.ControlOp.the-variants.{Wait, Tra, Trr, Mcl, Mst}
 use Rattle.isa.specs.declared.instruction.System.the-variants.{Control, TraPgc, TrrPcr, Irr, Irw, Srb, Lrb}
-use Rattle.isa.specs.declared.instruction.System.the-variants.{Exam, Depo, Iox, Ioxt, Ident}
+use Rattle.isa.specs.declared.instruction.System.the-variants.{Exam, Depo, Physical, Iox, Ioxt, Ident}
+use Rattle.isa.specs.declared.instruction.Transfer.the-variants.{Ldatx, Ldxtx, Lddtx, Ldbtx, Statx, Stztx}
+use Rattle.isa.specs.declared.instruction.Transfer.the-variants.{Stdtx}
 use Rattle.isa.specs.declared.instruction.Instruction.{Instruction}
 use Rattle.isa.specs.declared.instruction.Instruction.the-variants.{Unprivileged, Privileged, Execute, Monitor}
 use Rattle.isa.specs.declared.instruction.Instruction.the-variants.{Illegal}
@@ -201,7 +203,8 @@ switchOf n =
     ∷ (0o03, Illegal)
     ∷ (0o04, control Pof)
     ∷ (0o05, control Piof)
-    ∷ (0o06, Illegal)
+    ∷ (0o06, control Sex)
+    ∷ (0o07, control Rex)
     ∷ (0o10, control Pon)
     ∷ (0o11, Illegal)
     ∷ (0o12, control Pion)
@@ -212,6 +215,22 @@ switchOf n =
     ∷ (0o20, Illegal)
     ∷ [])
     n
+
+-- Document 02, card 4, ruling R1: 143300 to 143377, LDATX 1433d0 to STDTX 1433d6 with the displacement d in bits 5-3
+unfoldable pub transferOf : ℕ → Instruction
+transferOf w =
+    let d = w / 8 % 8 in
+    byCode Illegal
+    ((0, Privileged (Physical Ldatx d))
+    ∷ (1, Privileged (Physical Ldxtx d))
+    ∷ (2, Privileged (Physical Lddtx d))
+    ∷ (3, Privileged (Physical Ldbtx d))
+    ∷ (4, Privileged (Physical Statx d))
+    ∷ (5, Privileged (Physical Stztx d))
+    ∷ (6, Privileged (Physical Stdtx d))
+    ∷ (7, Illegal)
+    ∷ [])
+    (w % 8)
 
 -- SRB is 152402 + 010 * level, LRB 152600 + 010 * level: the low three bits decide
 unfoldable pub srbOf : ℕ → Instruction
@@ -258,7 +277,8 @@ rows w =
     -- 130000 JAP to 133400 JXN
     ∷ (0o130000, Unprivileged (Jump (conditionOf w) (displacementOf w)))
     ∷ (0o134000, memory Jpl w)
-    -- the skips, of which bits 7 and 6 are zero, and between them EXR, RMPY, RDIV, LBYT, SBYT, MIX3, IDENT
+    -- the skips, of which bits 7 and 6 are zero, and between them EXR, RMPY, RDIV, LBYT, SBYT, MIX3, the seven by T
+    -- and X, IDENT
     ∷ (0o140000, skip Eql w)
     ∷ (0o140100, Illegal)
     ∷ (0o140400, skip Geq w)
@@ -284,7 +304,7 @@ rows w =
     ∷ (0o143000, skip Lst w)
     ∷ (0o143100, Illegal)
     ∷ (0o143200, Unprivileged Mix3)
-    ∷ (0o143300, Illegal)
+    ∷ (0o143300, transferOf w)
     ∷ (0o143400, skip Mlst w)
     ∷ (0o143500, Illegal)
     ∷ (0o143600, Privileged (Ident (w % 64)))

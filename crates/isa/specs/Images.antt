@@ -115,8 +115,8 @@ loadedWords k size i = placed k (contents i) (bodies i) (replicate size 0)
 abbrev pub loadedState : List ℕ → State
 loadedState i = stateOf (loadedWords kindRegisters registerWords i) (loadedWords kindControl controlCount i)
 
--- "The writer puts four full entries, kinds 1 to 4: memory + 431 words."; document 02, card 3: "The writer's size grows
--- by one."
+-- "The writer puts four full entries, kinds 1 to 4"; document 02, card 3: "The writer's size grows by one."; card 4:
+-- "The writer's size follows; kind 4 runs to 512."
 abbrev pub entryWords : ℕ → ℕ → List ℕ
 entryWords k n = k ∷ 0 ∷ 0 ∷ n / wordRange ∷ n % wordRange ∷ []
 
@@ -130,7 +130,7 @@ contentsWords words =
 unfoldable pub imageOf : State → List ℕ → List ℕ → List ℕ
 imageOf s m t = contentsWords (length m) ++ (m ++ (s .regs ++ (controlWords s ++ t)))
 
--- the list of contents, its word 0 and four entries; and with it the words beside memory: 432
+-- the list of contents, its word 0 and four entries; and with it the words beside memory: 689
 abbrev pub contentsSize : ℕ
 contentsSize = 21
 

@@ -22,19 +22,19 @@ abbrev pub someBelow : ℕ → (ℕ → Bool) → Bool
 someBelow zero f = false
 someBelow (suc n) f = f n || someBelow n f
 
--- some entry of the tables a and b passes the test
-abbrev pub someEntry : (Entry → Bool) → List ℕ → ℕ → Bool
-someEntry f t table = someBelow entriesInTable (λ v. f (entryAt t (table * entriesInTable + v)))
+-- some entry of the tables a and b, all entries being of one form, passes the test
+abbrev pub someEntry : (Entry → Bool) → Bool → List ℕ → ℕ → Bool
+someEntry f form t table = someBelow entriesInTable (λ v. f (entryAt form t (table * entriesInTable + v)))
 
-unfoldable pub inEither : (Entry → Bool) → List ℕ → ℕ → ℕ → Bool
-inEither f t a b = someEntry f t a || someEntry f t b
+unfoldable pub inEither : (Entry → Bool) → Bool → List ℕ → ℕ → ℕ → Bool
+inEither f form t a b = someEntry f form t a || someEntry f form t b
 
 -- "pages that no entry of the two tables permits to the ring": some entry does
-abbrev pub permitted : List ℕ → ℕ → ℕ → ℕ → ℕ → Bool
-permitted t a b ring page = inEither (λ e. permits e ring page) t a b
+abbrev pub permitted : Bool → List ℕ → ℕ → ℕ → ℕ → ℕ → Bool
+permitted form t a b ring page = inEither (λ e. permits e ring page) form t a b
 
-abbrev pub permittedWriting : List ℕ → ℕ → ℕ → ℕ → ℕ → Bool
-permittedWriting t a b ring page = inEither (λ e. permitsWriting e ring page) t a b
+abbrev pub permittedWriting : Bool → List ℕ → ℕ → ℕ → ℕ → ℕ → Bool
+permittedWriting form t a b ring page = inEither (λ e. permitsWriting e ring page) form t a b
 
 -- "A start's level is control word 0, its ring bits 1-0 of that level's PCR, its two tables the normal and the
 -- alternate one named there (they may be one)." A page that is permitted from the start s with the tables t, and one
@@ -42,12 +42,17 @@ permittedWriting t a b ring page = inEither (λ e. permitsWriting e ring page) t
 abbrev pub startPcr : State → ℕ
 startPcr s = getD (s .pcr) (s .level) 0
 
+-- ruling R12: the start's extended flag decides the form in which the two tables are read
+abbrev pub startForm : State → Bool
+startForm s = eqb (s .added .extended) 1
+
 abbrev pub reachable : State → List ℕ → ℕ → Bool
-reachable s t page = permitted t (normalTableOf (startPcr s)) (alternateTableOf (startPcr s)) (ringOf (startPcr s)) page
+reachable s t page =
+    let p = startPcr s in permitted (startForm s) t (normalTableOf p) (alternateTableOf p) (ringOf p) page
 
 abbrev pub writable : State → List ℕ → ℕ → Bool
 writable s t page =
-    permittedWriting t (normalTableOf (startPcr s)) (alternateTableOf (startPcr s)) (ringOf (startPcr s)) page
+    let p = startPcr s in permittedWriting (startForm s) t (normalTableOf p) (alternateTableOf p) (ringOf p) page
 
 -- "Both starts have equally much memory and are equal in .. each memory word outside the pages that no entry of the two
 -- tables permits to the ring", the state and the tables being one. Past both memories' end k names no word, and `getD`

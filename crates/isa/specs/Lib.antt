@@ -8,6 +8,7 @@ pub mod Instructions
 pub mod Rotations
 pub mod System
 pub mod Pages
+pub mod Physical
 pub mod Step
 pub mod Run
 pub mod Images

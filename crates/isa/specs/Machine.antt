@@ -45,7 +45,8 @@ abbrev pub statusRange : ℕ
 statusRange = 256
 
 -- "10 to 25 PCR of levels 0 to 15": the first PCR among the control words. Document 02 adds words behind the PCRs; its
--- card 3: "Whether it is held is control word 26". The first of these, how many they are, and all control words: 27
+-- card 3: "Whether it is held is control word 26"; its card 4: "the extended flag (control word 27 ..)". The first of
+-- these, how many they are, and all control words: 28
 abbrev pub firstPcr : ℕ
 firstPcr = 10
 
@@ -53,7 +54,7 @@ abbrev pub firstAdded : ℕ
 firstAdded = 26
 
 abbrev pub addedCount : ℕ
-addedCount = 1
+addedCount = 2
 
 abbrev pub controlCount : ℕ
 controlCount = firstAdded + addedCount
@@ -62,23 +63,23 @@ controlCount = firstAdded + addedCount
 abbrev pub stateWords : ℕ
 stateWords = registerWords + controlCount
 
--- "Lent memory: words in pages of 1,024, at least one page, at most 524,288 words. Lent page tables: 256 words, four
--- tables of 64 entries."
+-- "Lent memory: words in pages of 1,024, at least one page"; document 02, card 4: "Memory may be up to 16,777,216 words
+-- and the lent tables are always 512."
 abbrev pub pageWords : ℕ
 pageWords = 1024
 
 abbrev pub largestMemory : ℕ
-largestMemory = 524288
+largestMemory = 16777216
 
 abbrev pub tableWords : ℕ
-tableWords = 256
+tableWords = 512
 
+-- "four tables of 64 entries": entries of a table, and of all
 abbrev pub entriesInTable : ℕ
 entriesInTable = 64
 
--- "Addresses 177400 to 177777 are the page tables": the first of them
-abbrev pub windowStart : ℕ
-windowStart = 0o177400
+abbrev pub slotCount : ℕ
+slotCount = 256
 
 -- the internal interrupts: "MON gives interrupt 1"; "the needed permit missing .. interrupt 2"; "all three permits 0,
 -- interrupt 3"; "Other codes are illegal (interrupt 4)"; RDIV "gives interrupt 5"; "Privileged codes need ring 2 or 3
@@ -217,6 +218,7 @@ controlOf s = record {
   iid = s .control .iid;
   iie = s .control .iie;
   pgs = s .control .pgs;
+  extended = s .added .extended;
 }
 
 abbrev pub scalarsOf : Control → Scalars
@@ -233,11 +235,12 @@ scalarsOf k = record {
 }
 
 abbrev pub addedOf : Control → Added
-addedOf k = record { held = k .held }
+addedOf k = record { held = k .held; extended = k .extended }
 
 -- "Control words, in image order: 0 level, 1 interrupts on, 2 paging on, 3 stopped .. 4 PID (pending levels), 5 PIE
 -- (enabled levels), 6 PVL (previous level), 7 IID (internal interrupts detected), 8 IIE (enabled), 9 PGS (paging
--- status), 10 to 25 PCR of levels 0 to 15."; behind them those that document 02 adds: 26, whether PGS is held
+-- status), 10 to 25 PCR of levels 0 to 15."; behind them those that document 02 adds: 26, whether PGS is held, and 27,
+-- the extended flag
 abbrev pub scalarWords : ℕ → Control → List ℕ
 scalarWords l k =
     l
@@ -253,12 +256,12 @@ scalarWords l k =
     ∷ []
 
 abbrev pub addedWords : Control → List ℕ
-addedWords k = k .held ∷ []
+addedWords k = k .held ∷ k .extended ∷ []
 
 abbrev pub controlWords : State → List ℕ
 controlWords s = scalarWords (s .level) (controlOf s) ++ (s .pcr ++ addedWords (controlOf s))
 
--- the state of 128 registers and 27 control words in image order; a list of 27 has each that is taken
+-- the state of 128 registers and 28 control words in image order; a list of 28 has each that is taken
 abbrev pub stateOf : List ℕ → List ℕ → State
 stateOf rs cs = record {
   regs = rs;
@@ -275,7 +278,7 @@ stateOf rs cs = record {
     pgs = getD cs 9 0;
   };
   pcr = take levelCount (drop firstPcr cs);
-  added = record { held = getD cs firstAdded 0 };
+  added = record { held = getD cs firstAdded 0; extended = getD cs (firstAdded + 1) 0 };
 }
 
 -- "In a file STS is 0 to 255": of the levels below l
@@ -304,13 +307,14 @@ abbrev pub statusInRange : Control → Bool
 statusInRange c = pgsBits (c .pgs) && ltb (c .held) 2
 
 -- the control words but level and PCRs in range: "1 to 3 are 0 or 1", "Level and PVL are 0 to 15"; "bits not used are
--- 0"
+-- 0"; document 02, card 4, ruling R10: control word 27 is 0 or 1
 abbrev pub controlInRange : Control → Bool
 controlInRange c =
     ltb (c .interrupts) 2 && ltb (c .paging) 2 && ltb (c .stopped) 2 && ltb (c .pvl) levelCount
     && interruptBits (c .iid)
     && interruptBits (c .iie)
     && statusInRange c
+    && ltb (c .extended) 2
 
 -- a state in "the ranges above"; ruling 29: every value of PID, PIE, page tables, memory and registers other than STS
 -- is in range
@@ -335,7 +339,7 @@ alternateTableOf p = p / 128 % 4
 abbrev pub normalTableOf : ℕ → ℕ
 normalTableOf p = p / 512 % 4
 
--- "at least one page, at most 524,288 words"; lent page tables of "256 words"
+-- "at least one page"; document 02, card 4: "up to 16,777,216 words and the lent tables are always 512"
 abbrev pub memorySize : ℕ → Bool
 memorySize n = eqb (n % pageWords) 0 && leb pageWords n && leb n largestMemory
 
@@ -353,7 +357,8 @@ pub record Typed (s : State) : Type 0 where
   pub regs-words : Words (s .regs)
   pub control-words : Words (controlWords s)
 
--- A state of its parts: the level l, the control words k 1 to 9 and 26, the registers b and the PCRs p of all levels.
+-- A state of its parts: the level l, the control words k 1 to 9, 26 and 27, the registers b and the PCRs p of all
+-- levels.
 abbrev pub stateWith : ℕ → Control → List ℕ → List ℕ → State
 stateWith l k b p = record { regs = b; level = l; control = scalarsOf k; pcr = p; added = addedOf k }
 

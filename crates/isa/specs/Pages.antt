@@ -1,10 +1,10 @@
--- Document 01, "Pages".
+-- Document 01, "Pages", and document 02, card 4: the two forms of an entry.
 use Prim.Native.Nat.{ℕ, _+_, _*_, _/_, _%_}
 use mathlib.Core.Bool.{Bool, cond, not, _&&_, _||_}
 use mathlib.Core.List.{List, [], _∷_}
 use lib.ListN.{getD, set, drop}
 use lib.Dec.{ltb, leb, eqb}
-use Rattle.isa.specs.Machine.{pageWords, tableWords, entriesInTable, windowStart, interruptProtection}
+use Rattle.isa.specs.Machine.{pageWords, tableWords, entriesInTable, slotCount, interruptProtection}
 use Rattle.isa.specs.Machine.{interruptPageFault, interruptOutOfRange, bit, reg, flagPTM, ringOf, normalTableOf}
 use Rattle.isa.specs.Machine.{alternateTableOf, withPcr}
 use Rattle.isa.specs.declared.machine.Core.{Core}
@@ -28,25 +28,39 @@ pub record Entry : Type 0 where
   pub ring : ℕ
   pub page : ℕ
 
-abbrev pub entryOf : ℕ → Entry
-entryOf e = record {
+-- the entry of the word with its permits, marks and ring, and of its page
+abbrev pub entryOf : ℕ → ℕ → Entry
+entryOf e page = record {
   write = eqb (bit 15 e) 1;
   read = eqb (bit 14 e) 1;
   fetch = eqb (bit 13 e) 1;
   wip = eqb (bit 12 e) 1;
   pgu = eqb (bit 11 e) 1;
   ring = e / 512 % 4;
-  page = e % 512;
+  page = page;
 }
 
--- "four tables of 64 entries": where the entry of a virtual address stands, by the table; and the entry there. The page
--- of an address of 16 bits is below 64 and a table's number below 4, so each slot is one of the 256; `% 64` only keeps
--- that for any number.
+-- "four tables of 64 entries": the slot of a virtual address by the table, that is, its entry's number among all. The
+-- page of an address of 16 bits is below 64 and a table's number below 4, so each slot is one of the 256; `% 64` only
+-- keeps that for any number.
 abbrev pub slotOf : ℕ → ℕ → ℕ
 slotOf table a = table * entriesInTable + a / pageWords % entriesInTable
 
-abbrev pub entryAt : List ℕ → ℕ → Entry
-entryAt t i = entryOf (getD t i 0)
+-- An entry's form (document 02, card 4): in 19-bit mode, `false`, it is one word, as above; in extended mode, `true`,
+-- two words, "permits, marks and ring in the first, at their old bits; a 14-bit physical page in the second". By the
+-- slot: where its first and its last word stand; how many pages it can name.
+abbrev pub firstWord : Bool → ℕ → ℕ
+firstWord form i = cond form (i * 2) i
+
+abbrev pub lastWord : Bool → ℕ → ℕ
+lastWord form i = cond form (i * 2 + 1) i
+
+abbrev pub pageNumbers : Bool → ℕ
+pageNumbers form = cond form 16384 512
+
+-- the entry at a slot; ruling R8: its other bits mean nothing
+abbrev pub entryAt : Bool → List ℕ → ℕ → Entry
+entryAt form t i = entryOf (getD t (firstWord form i) 0) (getD t (lastWord form i) 0 % pageNumbers form)
 
 abbrev pub somePermit : Entry → Bool
 somePermit e = e .write || e .read || e .fetch
@@ -111,19 +125,28 @@ judged e slot words ring k a =
 abbrev pub tableOf : Rights → Bool → ℕ
 tableOf r alternate = cond alternate (r .alternate) (r .normal)
 
+-- Document 02, card 4: "page tables of 512 words standing at 177000 to 177777"; "In 19-bit mode the first 256 words are
+-- used as before, at 177400 to 177777." The first address, and how many words stand there.
+abbrev pub windowStart : Bool → ℕ
+windowStart form = cond form 0o177000 0o177400
+
+abbrev pub windowWords : Bool → ℕ
+windowWords form = cond form tableWords slotCount
+
 -- "Addresses 177400 to 177777 are the page tables when paging is off or the ring is 3, for fetches too"; ruling 5: the
--- ring is the one at the moment of the access
+-- ring is the one at the moment of the access; ruling R7: who sees them is the same in extended mode
 unfoldable pub inWindow : Rights → ℕ → Bool
-inWindow r a = leb windowStart a && (not (r .paging) || eqb (r .ring) 3)
+inWindow r a = leb (windowStart (r .extended)) a && (not (r .paging) || eqb (r .ring) 3)
 
 -- One access, of a machine with so many words of memory. "With paging off all is permitted and addresses are physical."
--- From 177400 on, `a % 256` is the place in the tables.
+-- From the window's first address on, `a % windowWords` is the place in the tables.
 unfoldable pub translate : List ℕ → ℕ → Rights → Access → Translation
 translate t words r x =
     let a = x .address in
     let i = slotOf (tableOf r (x .alternate)) a in
-    cond (inWindow r a) (inTables (x .kind) (a % tableWords))
-    (cond (r .paging) (judged (entryAt t i) i words (r .ring) (x .kind) a) (withinMemory words (x .kind) a))
+    cond (inWindow r a) (inTables (x .kind) (a % windowWords (r .extended)))
+    (cond (r .paging) (judged (entryAt (r .extended) t i) i words (r .ring) (x .kind) a)
+    (withinMemory words (x .kind) a))
 
 -- the number of the interrupt that an access gives, 0 where it passed; and PGS after it (ruling 2: 9 leaves it)
 abbrev pub faultOf : Translation → ℕ
@@ -171,12 +194,16 @@ markOf Read e = e / 4096 * 4096 + 2048 + e % 2048
 markOf Write e = e / 8192 * 8192 + 6144 + e % 2048
 markOf Indirect e = e / 4096 * 4096 + 2048 + e % 2048
 
+-- the tables with the entry at a slot marked: ruling R8, in its first word only
+abbrev pub withMark : Bool → List ℕ → ℕ → AccessKind → List ℕ
+withMark form t i k = set t (firstWord form i) (markOf k (getD t (firstWord form i) 0))
+
 -- the tables after an access; in the window "with no mark or lowering"
 unfoldable pub marked : List ℕ → ℕ → Rights → Access → List ℕ
 marked t words r x =
     let i = slotOf (tableOf r (x .alternate)) (x .address) in
     cond (r .paging && not (inWindow r (x .address)) && passes (translate t words r x))
-    (set t i (markOf (x .kind) (getD t i 0))) t
+    (withMark (r .extended) t i (x .kind)) t
 
 -- What a list of accesses leaves: the tables with their marks, where each goes, and the first fault, or NoAccess if all
 -- passed.
@@ -235,17 +262,19 @@ storeAll m t (Protection g ∷ xs) ws = storeAll m t xs ws
 storeAll m t (PageFault g ∷ xs) ws = storeAll m t xs ws
 storeAll m t (OutOfRange ∷ xs) ws = storeAll m t xs ws
 
--- What the running level's accesses are judged by. "With PTM 0 all use the normal table."
-abbrev pub rightsBy : ℕ → ℕ → ℕ → Rights
-rightsBy sts p paging = record {
+-- What the running level's accesses are judged by. "With PTM 0 all use the normal table." The extended flag tells the
+-- form of the entries.
+abbrev pub rightsBy : ℕ → ℕ → ℕ → ℕ → Rights
+rightsBy sts p paging extended = record {
   paging = eqb paging 1;
+  extended = eqb extended 1;
   ring = ringOf p;
   normal = normalTableOf p;
   alternate = cond (eqb (bit flagPTM sts) 1) (alternateTableOf p) (normalTableOf p);
 }
 
 abbrev pub rightsOf : Core → Rights
-rightsOf c = rightsBy (reg (c .file) Sts) (c .pcr) (c .control .paging)
+rightsOf c = rightsBy (reg (c .file) Sts) (c .pcr) (c .control .paging) (c .control .extended)
 
 -- "A passed fetch from a lower ring lowers the user's ring in PCR before the word is decoded"; a ring is below 4
 abbrev pub loweredPcr : ℕ → ℕ → ℕ

@@ -16,7 +16,9 @@ use Rattle.isa.specs.Address.{sum, access}
 use Rattle.isa.specs.Instructions.{indirectRequest, request, complete, operand, Completed}
 use Rattle.isa.specs.System.{highestIn, withLevels, withPid, withInternal, withPagingStatus, controlled}
 use Rattle.isa.specs.Pages.{slotOf, entryAt, translate, marked, testAll, Tested, faultOf, pgsAfter, passes}
-use Rattle.isa.specs.Pages.{firstStatus, heldAfter, wordAt, wordsAt, storeAll, rightsOf, lowered}
+use Rattle.isa.specs.Pages.{firstStatus, heldAfter, wordAt, wordsAt, wordsOf, storeAll, rightsOf, lowered}
+use Rattle.isa.specs.Physical.{transferAddress, firstPlace, secondPlace, firstFault, transferStores}
+use Rattle.isa.specs.Physical.{transferred}
 use Rattle.isa.specs.declared.machine.Control.{Control}
 use Rattle.isa.specs.declared.machine.Core.{Core}
 use Rattle.isa.specs.declared.machine.File.{File}
@@ -26,7 +28,8 @@ use Rattle.isa.specs.declared.machine.Register.the-variants.{Sts, D, P, 
 use Rattle.isa.specs.declared.instruction.User.{User}
 use Rattle.isa.specs.declared.instruction.System.{System}
 use Rattle.isa.specs.declared.instruction.System.the-variants.{Control as ControlOf, TraPgc, TrrPcr, Irr, Irw}
-use Rattle.isa.specs.declared.instruction.System.the-variants.{Srb, Lrb, Exam, Depo, Iox, Ioxt, Ident}
+use Rattle.isa.specs.declared.instruction.System.the-variants.{Srb, Lrb, Exam, Depo, Physical, Iox, Ioxt, Ident}
+use Rattle.isa.specs.declared.instruction.Transfer.{Transfer}
 use Rattle.isa.specs.declared.instruction.Instruction.{Instruction}
 use Rattle.isa.specs.declared.instruction.Instruction.the-variants.{Unprivileged, Privileged, Execute, Monitor}
 use Rattle.isa.specs.declared.instruction.Instruction.the-variants.{Illegal}
@@ -146,6 +149,19 @@ deposited c m t =
     let p = physicalAddress (c .file) in
     cond (ltb p (length m)) (part c 0 Nothing (set m p (reg (c .file) T)) t) (failed c OutOfRange m t)
 
+-- LDATX to STDTX (document 02, card 4), of the displacement d: x is the place of the word, y that of the next where the
+-- instruction has two. Ruling R4: both are tested before a load or a store takes effect.
+unfoldable pub transferStage : Core → List ℕ → List ℕ → Transfer → ℕ → Part
+transferStage c m t o d =
+    let f = c .file in
+    let form = eqb (c .control .extended) 1 in
+    let x = firstPlace form (length m) o (transferAddress f d) in
+    let y = secondPlace form (length m) o (transferAddress f d) in
+    let r = storeAll m t (x ∷ y ∷ []) (wordsOf (transferStores o f)) in
+    cond (passes (firstFault x y))
+    (part (withFile c (transferred o f (wordAt m t x) (wordAt m t y))) 0 Nothing (r .memory) (r .tables))
+    (failed c (firstFault x y) m t)
+
 -- what is left to be done outside the level l, or done here. "No device is fitted: IOX, IOXT and IDENT give interrupt
 -- 7."
 abbrev pub systemStage : ℕ → Core → List ℕ → List ℕ → System → Part
@@ -158,6 +174,7 @@ systemStage l c m t (Srb n) = part c 0 (StoreBlock n) m t
 systemStage l c m t (Lrb n) = part c 0 (LoadBlock n) m t
 systemStage l c m t Exam = examined c m t
 systemStage l c m t Depo = deposited c m t
+systemStage l c m t (Physical o d) = transferStage c m t o d
 systemStage l c m t (Iox n) = trapped interruptIox c m t
 systemStage l c m t Ioxt = trapped interruptIox c m t
 systemStage l c m t (Ident n) = trapped interruptIox c m t
@@ -215,7 +232,7 @@ fetchOf c = access Fetch false (reg (c .file) P)
 unfoldable pub stepIn : ℕ → Core → List ℕ → List ℕ → Part
 stepIn l c m t =
     let r = rightsOf c in
-    let ring = entryAt t (slotOf (r .normal) (reg (c .file) P)) .ring in
+    let ring = entryAt (r .extended) t (slotOf (r .normal) (reg (c .file) P)) .ring in
     fetched l c m (marked t (length m) r (fetchOf c)) ring (translate t (length m) r (fetchOf c))
 
 -- ---- what leaves the level

@@ -1,4 +1,4 @@
--- The privileged instructions that act on the running level and the control words alone: ION to MST.
+-- The privileged instructions that act on the running level and the control words alone: ION to MST, SEX and REX.
 use Prim.Native.Nat.{ℕ, zero, suc, _+_, _*_, _%_, _^_}
 use mathlib.Core.Bool.{cond}
 use lib.Dec.{eqb}
@@ -17,8 +17,8 @@ use Rattle.isa.specs.declared.instruction.Writable.the-variants.{Pie as 
 use Rattle.isa.specs.declared.instruction.Maskable.{Maskable}
 use Rattle.isa.specs.declared.instruction.Maskable.the-variants.{Status as InStatus, Pid as InPid, Pie as InPie}
 use Rattle.isa.specs.declared.instruction.ControlOp.{ControlOp}
-use Rattle.isa.specs.declared.instruction.ControlOp.the-variants.{Ion, Iof, Pon, Pof, Pion, Piof, Wait, Tra}
-use Rattle.isa.specs.declared.instruction.ControlOp.the-variants.{Trr, Mcl, Mst}
+use Rattle.isa.specs.declared.instruction.ControlOp.the-variants.{Ion, Iof, Pon, Pof, Pion, Piof, Sex, Rex}
+use Rattle.isa.specs.declared.instruction.ControlOp.the-variants.{Wait, Tra, Trr, Mcl, Mst}
 
 -- the highest bit of w that is set, among bits n to 1; 0 if none is, whatever bit 0 is
 abbrev pub highestIn : ℕ → ℕ → ℕ
@@ -38,6 +38,7 @@ withSwitches k i p h = record {
   iie = k .iie;
   pgs = k .pgs;
   held = k .held;
+  extended = k .extended;
 }
 
 abbrev pub withLevels : Control → ℕ → ℕ → ℕ → Control
@@ -52,6 +53,7 @@ withLevels k d e v = record {
   iie = k .iie;
   pgs = k .pgs;
   held = k .held;
+  extended = k .extended;
 }
 
 abbrev pub withInternal : Control → ℕ → ℕ → Control
@@ -66,6 +68,7 @@ withInternal k d e = record {
   iie = e;
   pgs = k .pgs;
   held = k .held;
+  extended = k .extended;
 }
 
 -- PGS, and whether it is held
@@ -81,6 +84,23 @@ withPagingStatus k g h = record {
   iie = k .iie;
   pgs = g;
   held = h;
+  extended = k .extended;
+}
+
+-- the extended flag
+abbrev pub withExtended : Control → ℕ → Control
+withExtended k x = record {
+  interrupts = k .interrupts;
+  paging = k .paging;
+  stopped = k .stopped;
+  pid = k .pid;
+  pie = k .pie;
+  pvl = k .pvl;
+  iid = k .iid;
+  iie = k .iie;
+  pgs = k .pgs;
+  held = k .held;
+  extended = x;
 }
 
 abbrev pub withPid : Control → ℕ → Control
@@ -96,11 +116,14 @@ waited l k =
     cond (eqb (k .interrupts) 1) (cond (eqb l 0) k (withPid k (withBit l 0 (k .pid))))
     (withSwitches k (k .interrupts) (k .paging) 1)
 
--- Ruling 13, the full status word: bit 15 interrupts on, 14 paging on, 13 zero, 12 one, 11-8 the level, 7-0 the flags.
--- In a state in range each is below the number that it is cut by; the cuts only make the result a word for any numbers.
+-- Ruling 13, the full status word: bit 15 interrupts on, 14 paging on, 12 one, 11-8 the level, 7-0 the flags; document
+-- 02, card 4: "the extended flag (control word 27, and bit 13 of the status word)". In a state in range each is below
+-- the number that it is cut by; the cuts only make the result a word for any numbers.
 abbrev pub statusWord : ℕ → Control → ℕ → ℕ
 statusWord l k sts =
-    k .interrupts % 2 * 0o100000 + k .paging % 2 * 0o040000 + 0o010000 + l % levelCount * 0o400 + sts % statusRange
+    k .interrupts % 2 * 0o100000 + k .paging % 2 * 0o040000 + k .extended % 2 * 0o020000 + 0o010000
+    + l % levelCount * 0o400
+    + sts % statusRange
 
 -- TRA: what A gets at level l. Ruling 12: PVL gives the word of IRR (previous level) DP, ACTL the level decoded.
 -- PVL is below 16; `% 16` only makes the result a word for any number.
@@ -160,7 +183,8 @@ bitsSet c r = withMaskable c r (bitOr (maskableWord c r) (reg (c .file) A))
 abbrev pub switched : Core → ℕ → ℕ → Core
 switched c i p = withControl c (withSwitches (c .control) i p (c .control .stopped))
 
--- the core c at level l, of which P is one further, after the instruction
+-- The core c at level l, of which P is one further, after the instruction. Ruling R6: SEX and REX set the extended flag
+-- and clear it, and do nothing else.
 abbrev pub controlled : ℕ → Core → ControlOp → Core
 controlled l c Ion = switched c 1 (c .control .paging)
 controlled l c Iof = switched c 0 (c .control .paging)
@@ -168,6 +192,8 @@ controlled l c Pon = switched c (c .control .interrupts) 1
 controlled l c Pof = switched c (c .control .interrupts) 0
 controlled l c Pion = switched c 1 1
 controlled l c Piof = switched c 0 0
+controlled l c Sex = withControl c (withExtended (c .control) 1)
+controlled l c Rex = withControl c (withExtended (c .control) 0)
 controlled l c Wait = withControl c (waited l (c .control))
 controlled l c (Tra r) = read l c r
 controlled l c (Trr r) = written c r

@@ -14,12 +14,13 @@ pub struct Access {
     pub address: u16,
 }
 
-// What an access is judged by: paging, the user's ring, and the tables that the normal and the alternate rule name. In
-// document 01 a ring has two bits. The 32 bits are the compiler's choice, not the document's: with 16 the struct would
-// be eight bytes long, copied as one number and taken apart by shifts at each use, which is slower (docs/BENCHMARK.md).
-// No definition depends on the width: to them the ring is a number below 4 (Machine.ringOf).
+// What an access is judged by: paging, extended mode, the user's ring, and the tables that the normal and the alternate
+// rule name. In document 01 a ring has two bits. The 32 bits are the compiler's choice, not the document's: with 16 the
+// struct would be eight bytes long, copied as one number and taken apart by shifts at each use, which is slower
+// (docs/BENCHMARK.md). No definition depends on the width: to them the ring is a number below 4 (Machine.ringOf).
 pub struct Rights {
     pub paging: bool,
+    pub extended: bool,
     pub ring: u32,
     pub normal: u16,
     pub alternate: u16,

@@ -22,7 +22,7 @@ pub const FIRST_PCR: usize = 10;
 
 pub const FIRST_ADDED: usize = FIRST_PCR + LEVEL_COUNT;
 
-pub const ADDED_COUNT: usize = 1;
+pub const ADDED_COUNT: usize = 2;
 
 pub const CONTROL_COUNT: usize = FIRST_ADDED + ADDED_COUNT;
 
@@ -35,16 +35,23 @@ pub const INTERNAL_LEVEL: u16 = 14;
 
 pub const STATUS_RANGE: u16 = 256;
 
-// Lent words: a page, the largest memory, the page tables, one of them; the first address of the tables' window.
+// Lent words: a page, the largest memory, the page tables; the entries of a table.
 pub const PAGE_WORDS: usize = 1024;
 
-pub const LARGEST_MEMORY: usize = 524288;
+pub const LARGEST_MEMORY: usize = 16777216;
 
-pub const TABLE_WORDS: usize = 256;
+pub const TABLE_WORDS: usize = 512;
 
 pub const ENTRIES_IN_TABLE: usize = 64;
 
+// The tables' window, in 19-bit and in extended mode: its first address and its words.
 pub const WINDOW_START: u16 = 0o177400;
+
+pub const WINDOW_WORDS: usize = 256;
+
+pub const EXTENDED_WINDOW_START: u16 = 0o177000;
+
+pub const EXTENDED_WINDOW_WORDS: usize = TABLE_WORDS;
 
 // The registers' numbers.
 pub const NUMBER_STS: usize = 0;

@@ -173,6 +173,8 @@ pub enum ControlOp {
     Pof,
     Pion,
     Piof,
+    Sex,
+    Rex,
     Wait,
     Tra(Readable),
     Trr(Writable),
@@ -180,10 +182,21 @@ pub enum ControlOp {
     Mst(Maskable),
 }
 
-// The privileged instructions. A number is a level, of four bits, or a device's address or line. IOX's address has
-// eleven bits in document 002. The 64 bits are the compiler's choice, not the document's: with them what an instruction
-// holds starts at byte 8, which is faster (docs/BENCHMARK.md). No definition depends on the width: the decoder gives
-// the low eleven bits of the word, and nothing looks at them as long as no device is fitted.
+// The seven instructions that reach physical memory by T and X.
+pub enum Transfer {
+    Ldatx,
+    Ldxtx,
+    Lddtx,
+    Ldbtx,
+    Statx,
+    Stztx,
+    Stdtx,
+}
+
+// The privileged instructions. A number is a level, of four bits, a displacement, or a device's address or line. IOX's
+// address has eleven bits in document 002. The 64 bits are the compiler's choice, not the document's: with them what an
+// instruction holds starts at byte 8, which is faster (docs/BENCHMARK.md). No definition depends on the width: the
+// decoder gives the low eleven bits of the word, and nothing looks at them as long as no device is fitted.
 pub enum System {
     Control(ControlOp),
     TraPgc,
@@ -194,6 +207,7 @@ pub enum System {
     Lrb(u16),
     Exam,
     Depo,
+    Physical(Transfer, u16),
     Iox(u64),
     Ioxt,
     Ident(u16),

@@ -128,10 +128,11 @@ pub struct Scalars {
     pub pgs: u16,
 }
 
-// The control words behind the PCRs: 26, whether PGS is held.
+// The control words behind the PCRs: 26, whether PGS is held; 27, the extended flag.
 #[repr(C)]
 pub struct Added {
     pub held: u16,
+    pub extended: u16,
 }
 
 // The registers and the PCRs of all levels.
@@ -139,7 +140,7 @@ pub type RegisterWords = [u16; REGISTER_WORDS];
 
 pub type Pcrs = [u16; LEVEL_COUNT];
 
-// The machine as callers hand it in and get it back: register n of a level is word 8 * level + n. In C's layout its 155
+// The machine as callers hand it in and get it back: register n of a level is word 8 * level + n. In C's layout its 156
 // words stand in image order, with nothing between them.
 #[repr(C)]
 pub struct State {
@@ -150,7 +151,8 @@ pub struct State {
     pub added: Added,
 }
 
-// The control words that instructions work on, 1 to 9 and 26; the level (0) and the PCRs (10 to 25) stand beside them.
+// The control words that instructions work on, 1 to 9, 26 and 27; the level (0) and the PCRs (10 to 25) stand beside
+// them.
 // No order of them that was tried takes fewer machine instructions a step of a run (docs/BENCHMARK.md).
 pub struct Control {
     pub interrupts: u16,
@@ -159,6 +161,7 @@ pub struct Control {
     pub stopped: u16,
     pub pid: u16,
     pub pie: u16,
+    pub extended: u16,
     pub pvl: u16,
     pub iid: u16,
     pub iie: u16,
@@ -183,6 +186,7 @@ impl State {
             iid: w.iid,
             iie: w.iie,
             pgs: w.pgs,
+            extended: a.extended,
         }
     }
 
@@ -205,7 +209,10 @@ impl State {
                 pgs: k.pgs,
             },
             pcr: pcrs,
-            added: Added { held: k.held },
+            added: Added {
+                held: k.held,
+                extended: k.extended,
+            },
         }
     }
 }

@@ -3,7 +3,7 @@
 -- Assumes nothing.
 use Prim.Native.Nat.{ℕ, _/_, _<_}
 use mathlib.Core.Path.{_≡_, refl, sym, ap, subst, _∙_}
-use mathlib.Core.Bool.{true, false}
+use mathlib.Core.Bool.{Bool, true, false}
 use mathlib.Core.List.{List, [], _∷_}
 use native.Mathlib.Omega.{arith}
 use native.Mathlib.Decide.{decLt, ℕ-discrete}
@@ -17,16 +17,16 @@ use Rattle.isa.specs.declared.access.Translation.the-variants.{Protection, Page
 use Rattle.isa.proofs.Tests.{no-both}
 use Rattle.isolation.proofs.Accesses.{Allowed, AllAllowed, also}
 
-module _ (t₀ : List ℕ) (a b ρ : ℕ) where
+module _ (form : Bool) (t₀ : List ℕ) (a b ρ : ℕ) where
   -- equally long, and equal at each word of a permitted page
   pub record Agree (m n : List ℕ) : Type 0 where
     pub size : length m ≡ length n
-    pub same : (k : ℕ) → permitted t₀ a b ρ (k / 1024) ≡ true → getD m k 0 ≡ getD n k 0
+    pub same : (k : ℕ) → permitted form t₀ a b ρ (k / 1024) ≡ true → getD m k 0 ≡ getD n k 0
 
   -- n is m but for words of pages that are permitted for writing
   pub record Kept (m n : List ℕ) : Type 0 where
     pub size : length n ≡ length m
-    pub same : (k : ℕ) → permittedWriting t₀ a b ρ (k / 1024) ≡ false → getD n k 0 ≡ getD m k 0
+    pub same : (k : ℕ) → permittedWriting form t₀ a b ρ (k / 1024) ≡ false → getD n k 0 ≡ getD m k 0
 
   kept-refl : (m : List ℕ) → Kept m m
   kept-refl m = record { size = refl; same = λ k f. refl }
@@ -59,7 +59,7 @@ module _ (t₀ : List ℕ) (a b ρ : ℕ) where
         same = λ k f. go k f (ℕ-discrete k p) (decLt p (length m));
       }
     where
-      go : (k : ℕ) → permitted t₀ a b ρ (k / 1024) ≡ true → Dec (k ≡ p) → Dec (p < length m)
+      go : (k : ℕ) → permitted form t₀ a b ρ (k / 1024) ≡ true → Dec (k ≡ p) → Dec (p < length m)
           → getD (set m p v) k 0 ≡ getD (set n p v) k 0
       go k f (no q) d = getD-set-other m p k v 0 q ∙ h .same k f ∙ sym (getD-set-other n p k v 0 q)
       go k f (yes q) (yes l) =
@@ -69,11 +69,11 @@ module _ (t₀ : List ℕ) (a b ρ : ℕ) where
           ∙ sym (ap (λ (x : List ℕ). getD x k 0) (set-out n p v (omega (arith, h .size))))
 
   -- a store to a page that is permitted for writing
-  set-kept : (m : List ℕ) (p v : ℕ) → permittedWriting t₀ a b ρ (p / 1024) ≡ true → Kept m (set m p v)
+  set-kept : (m : List ℕ) (p v : ℕ) → permittedWriting form t₀ a b ρ (p / 1024) ≡ true → Kept m (set m p v)
   set-kept m p v h =
       record { size = length-set m p v; same = λ k f. getD-set-other m p k v 0 (λ q. no-both (sym (rw q at f) ∙ h)) }
 
-  pub word-same : (m n t : List ℕ) (x : Translation) → Allowed t₀ a b ρ x → Agree m n → wordAt m t x ≡ wordAt n t x
+  pub word-same : (m n t : List ℕ) (x : Translation) → Allowed form t₀ a b ρ x → Agree m n → wordAt m t x ≡ wordAt n t x
   word-same m n t NoAccess h l = refl
   word-same m n t (Load p) h l = l .same p h
   word-same m n t (Store p) h l = refl
@@ -83,7 +83,7 @@ module _ (t₀ : List ℕ) (a b ρ : ℕ) where
   word-same m n t (PageFault g) h l = refl
   word-same m n t OutOfRange h l = refl
 
-  pub words-same : (m n t : List ℕ) (xs : List Translation) → AllAllowed t₀ a b ρ xs → Agree m n
+  pub words-same : (m n t : List ℕ) (xs : List Translation) → AllAllowed form t₀ a b ρ xs → Agree m n
       → wordsAt m t xs ≡ wordsAt n t xs
   words-same m n t [] h l = refl
   words-same m n t (x ∷ xs) (also h hs) l =
@@ -107,7 +107,7 @@ module _ (t₀ : List ℕ) (a b ρ : ℕ) where
     right-tables = h .right-tables;
   }
 
-  pub store-all : (m n t : List ℕ) (xs : List Translation) (ws : List ℕ) → AllAllowed t₀ a b ρ xs → Agree m n
+  pub store-all : (m n t : List ℕ) (xs : List Translation) (ws : List ℕ) → AllAllowed form t₀ a b ρ xs → Agree m n
       → Stored m n t (storeAll m t xs ws) (storeAll n t xs ws)
   store-all m n t [] ws h l = stored-none m n t l
   store-all m n t (NoAccess ∷ xs) ws (also h hs) l = store-all m n t xs ws hs l

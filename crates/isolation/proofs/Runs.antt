@@ -24,16 +24,18 @@ use Rattle.isolation.proofs.Accesses.{Held}
 use Rattle.isolation.proofs.Memories.{Agree, EvenMemories, even-refl, even-trans}
 use Rattle.isolation.proofs.Stages.{Local, Even, level-even}
 
-module _ (t₀ : List ℕ) (a b ρ : ℕ) where
+module _ (form : Bool) (t₀ : List ℕ) (a b ρ : ℕ) where
   -- the running level's words are put back: where the level has no PCR, that stays as it was
-  put-held : (s : State) (c : Core) → Held t₀ a b ρ (coreOf s) → Held t₀ a b ρ c → Held t₀ a b ρ (coreOf (withCore s c))
+  put-held : (s : State) (c : Core) → Held form t₀ a b ρ (coreOf s) → Held form t₀ a b ρ c
+      → Held form t₀ a b ρ (coreOf (withCore s c))
   put-held s c hs hc = go (decLt (s .level) (length (s .pcr)))
     where
-      go : Dec (s .level < length (s .pcr)) → Held t₀ a b ρ (coreOf (withCore s c))
+      go : Dec (s .level < length (s .pcr)) → Held form t₀ a b ρ (coreOf (withCore s c))
       go (yes q) =
           let w = getD-set-same (s .pcr) (s .level) (c .pcr) 0 q in
           record {
             paging-on = hc .paging-on;
+            entries = hc .entries;
             ring-low = rw w (hc .ring-low);
             normal = rw w (hc .normal);
             alternate = rw w (hc .alternate);
@@ -42,6 +44,7 @@ module _ (t₀ : List ℕ) (a b ρ : ℕ) where
           let w = set-out (s .pcr) (s .level) (c .pcr) (omega arith) in
           record {
             paging-on = hc .paging-on;
+            entries = hc .entries;
             ring-low = rw w (hs .ring-low);
             normal = rw w (hs .normal);
             alternate = rw w (hs .alternate);
@@ -52,14 +55,14 @@ module _ (t₀ : List ℕ) (a b ρ : ℕ) where
     state : r .state ≡ q .state
     gave : r .gave ≡ q .gave
     tables : r .tables ≡ q .tables
-    memories : EvenMemories t₀ a b ρ m n (r .memory) (q .memory)
-    marks : Marked (r .tables) t₀
-    held : Held t₀ a b ρ (coreOf (r .state))
+    memories : EvenMemories form t₀ a b ρ m n (r .memory) (q .memory)
+    marks : Marked form (r .tables) t₀
+    held : Held form t₀ a b ρ (coreOf (r .state))
 
   -- what is left to be done outside the level touches no memory and nothing that confines the level
-  far-even : (s : State) (g : ℕ) (m n m′ n′ t : List ℕ) (far : Far) → Local far → EvenMemories t₀ a b ρ m n m′ n′
-      → Marked t t₀
-      → Held t₀ a b ρ (coreOf s) → EvenTurn m n (farStage s g m′ t far) (farStage s g n′ t far)
+  far-even : (s : State) (g : ℕ) (m n m′ n′ t : List ℕ) (far : Far) → Local far → EvenMemories form t₀ a b ρ m n m′ n′
+      → Marked form t t₀
+      → Held form t₀ a b ρ (coreOf s) → EvenTurn m n (farStage s g m′ t far) (farStage s g n′ t far)
   unfolding farStage
   far-even s g m n m′ n′ t Nothing hf h hm hs =
       record { state = refl; gave = refl; tables = refl; memories = h; marks = hm; held = hs }
@@ -69,8 +72,13 @@ module _ (t₀ : List ℕ) (a b ρ : ℕ) where
     tables = refl;
     memories = h;
     marks = hm;
-    held =
-        record { paging-on = hs .paging-on; ring-low = hs .ring-low; normal = hs .normal; alternate = hs .alternate };
+    held = record {
+      paging-on = hs .paging-on;
+      entries = hs .entries;
+      ring-low = hs .ring-low;
+      normal = hs .normal;
+      alternate = hs .alternate;
+    };
   }
   far-even s g m n m′ n′ t (ReadRegister x r) hf h hm hs = absurd hf
   far-even s g m n m′ n′ t (WriteRegister x r) hf h hm hs = absurd hf
@@ -79,7 +87,7 @@ module _ (t₀ : List ℕ) (a b ρ : ℕ) where
   far-even s g m n m′ n′ t (StoreBlock x) hf h hm hs = absurd hf
   far-even s g m n m′ n′ t (LoadBlock x) hf h hm hs = absurd hf
 
-  settled-even : (s : State) (m n : List ℕ) (r q : Part) → Held t₀ a b ρ (coreOf s) → Even t₀ a b ρ m n r q
+  settled-even : (s : State) (m n : List ℕ) (r q : Part) → Held form t₀ a b ρ (coreOf s) → Even form t₀ a b ρ m n r q
       → EvenTurn m n (settled s r) (settled s q)
   unfolding settled
   settled-even s m n r q hs e =
@@ -88,14 +96,14 @@ module _ (t₀ : List ℕ) (a b ρ : ℕ) where
       (e .local) (e .memories) (e .marks) (put-held s (r .near .core) hs (e .held)))
 
   -- a run stops where a change of level is due, so a step that it makes is one of the level, or of a stopped machine
-  step-even : ρ ≤ 1 → (s : State) (m n t : List ℕ) → changeDue s ≡ false → Held t₀ a b ρ (coreOf s) → Agree t₀ a b ρ m n
-      → Marked t t₀
+  step-even : ρ ≤ 1 → (s : State) (m n t : List ℕ) → changeDue s ≡ false → Held form t₀ a b ρ (coreOf s)
+      → Agree form t₀ a b ρ m n → Marked form t t₀
       → EvenTurn m n (step s m t) (step s n t)
   unfolding step
   step-even low s m n t due hs h hm =
       rw due
       (go (isStopped s) (settled-even s m n (stepIn (s .level) (coreOf s) m t) (stepIn (s .level) (coreOf s) n t) hs
-      (level-even t₀ a b ρ m n h low (s .level) (coreOf s) hs t hm)))
+      (level-even form t₀ a b ρ m n h low (s .level) (coreOf s) hs t hm)))
     where
       go : (x : Bool) → EvenTurn m n (settled s (stepIn (s .level) (coreOf s) m t))
           (settled s (stepIn (s .level) (coreOf s) n t))
@@ -108,7 +116,7 @@ module _ (t₀ : List ℕ) (a b ρ : ℕ) where
             state = refl;
             gave = refl;
             tables = refl;
-            memories = even-refl t₀ a b ρ m n h;
+            memories = even-refl form t₀ a b ρ m n h;
             marks = hm;
             held = hs;
           }
@@ -120,27 +128,28 @@ module _ (t₀ : List ℕ) (a b ρ : ℕ) where
     pub steps : r .steps ≡ q .steps
     pub reason : r .reason ≡ q .reason
     pub tables : r .tables ≡ q .tables
-    pub memories : EvenMemories t₀ a b ρ m n (r .memory) (q .memory)
-    pub marks : Marked (r .tables) t₀
+    pub memories : EvenMemories form t₀ a b ρ m n (r .memory) (q .memory)
+    pub marks : Marked form (r .tables) t₀
 
   -- the rest of a run, from any two memories that agree
   abbrev EvenRest : (ℕ → State → List ℕ → List ℕ → Run) → Type 0
   EvenRest f =
-      (k : ℕ) (s : State) (m n t : List ℕ) → Held t₀ a b ρ (coreOf s) → Agree t₀ a b ρ m n → Marked t t₀
+      (k : ℕ) (s : State) (m n t : List ℕ) → Held form t₀ a b ρ (coreOf s) → Agree form t₀ a b ρ m n → Marked form t t₀
       → EvenRun m n (f k s m t) (f k s n t)
 
-  ended-even : (w : Reason) (k : ℕ) (s : State) (m n m′ n′ t : List ℕ) → EvenMemories t₀ a b ρ m n m′ n′ → Marked t t₀
+  ended-even : (w : Reason) (k : ℕ) (s : State) (m n m′ n′ t : List ℕ) → EvenMemories form t₀ a b ρ m n m′ n′
+      → Marked form t t₀
       → EvenRun m n (ended w k s m′ t) (ended w k s n′ t)
   ended-even w k s m n m′ n′ t h hm =
       record { state = refl; steps = refl; reason = refl; tables = refl; memories = h; marks = hm }
 
-  later : (m n m′ n′ : List ℕ) (r q : Run) → EvenMemories t₀ a b ρ m n m′ n′ → EvenRun m′ n′ r q → EvenRun m n r q
+  later : (m n m′ n′ : List ℕ) (r q : Run) → EvenMemories form t₀ a b ρ m n m′ n′ → EvenRun m′ n′ r q → EvenRun m n r q
   later m n m′ n′ r q h e = record {
     state = e .state;
     steps = e .steps;
     reason = e .reason;
     tables = e .tables;
-    memories = even-trans t₀ a b ρ m n m′ n′ (r .memory) (q .memory) h (e .memories);
+    memories = even-trans form t₀ a b ρ m n m′ n′ (r .memory) (q .memory) h (e .memories);
     marks = e .marks;
   }
 
@@ -162,7 +171,7 @@ module _ (t₀ : List ℕ) (a b ρ : ℕ) where
           (e .marks))
 
   -- before a step: stopped, a change of level due, or on; `rest` is what follows in each run
-  before-even : (k : ℕ) (s : State) (m n t : List ℕ) (r q : Run) → Agree t₀ a b ρ m n → Marked t t₀
+  before-even : (k : ℕ) (s : State) (m n t : List ℕ) (r q : Run) → Agree form t₀ a b ρ m n → Marked form t t₀
       → (changeDue s ≡ false → EvenRun m n r q)
       → EvenRun m n (cond (isStopped s) (ended Stopped k s m t) (cond (changeDue s) (ended Level k s m t) r))
       (cond (isStopped s) (ended Stopped k s n t) (cond (changeDue s) (ended Level k s n t) q))
@@ -171,14 +180,14 @@ module _ (t₀ : List ℕ) (a b ρ : ℕ) where
       go : (x y : Bool) → changeDue s ≡ y
           → EvenRun m n (cond x (ended Stopped k s m t) (cond y (ended Level k s m t) r))
           (cond x (ended Stopped k s n t) (cond y (ended Level k s n t) q))
-      go true y d = ended-even Stopped k s m n m n t (even-refl t₀ a b ρ m n h) hm
-      go false true d = ended-even Level k s m n m n t (even-refl t₀ a b ρ m n h) hm
+      go true y d = ended-even Stopped k s m n m n t (even-refl form t₀ a b ρ m n h) hm
+      go false true d = ended-even Level k s m n m n t (even-refl form t₀ a b ρ m n h) hm
       go false false d = e d
 
   pub run-even : ρ ≤ 1 → (c : ℕ) → EvenRest (runFrom true c)
   run-even low zero k s m n t hs h hm =
       before-even k s m n t (ended Spent k s m t) (ended Spent k s n t) h hm
-      (λ d. ended-even Spent k s m n m n t (even-refl t₀ a b ρ m n h) hm)
+      (λ d. ended-even Spent k s m n m n t (even-refl form t₀ a b ρ m n h) hm)
   run-even low (suc c) k s m n t hs h hm =
       before-even k s m n t (afterStep true (runFrom true c) k (step s m t))
       (afterStep true (runFrom true c) k (step s n t)) h hm

@@ -11,7 +11,7 @@ use Rattle.isa.specs.Machine.{sizesFit, ringOf, normalTableOf, alternateTableOf
 use Rattle.isa.specs.Pages.{entryAt}
 use Rattle.isa.specs.Run.{Run, runFrom}
 use Rattle.isa.specs.Answers.{stateAnswer, runCall, runCallBy, ranCall}
-use Rattle.isa.specs.Isolation.{startPcr, reachable, writable, differs, differingBelow}
+use Rattle.isa.specs.Isolation.{startPcr, startForm, reachable, writable, differs, differingBelow}
 use Rattle.isa.specs.declared.machine.State.{State}
 use Rattle.isa.specs.declared.answer.Refusal.{Refusal}
 use Rattle.isa.specs.declared.answer.Answer.{Answer}
@@ -43,15 +43,17 @@ count-same m n m′ n′ h (suc k) = rw (h k, count-same m n m′ n′ h k)
 
 module _ (s : State) (t : List ℕ) where
   abbrev AgreeFrom : List ℕ → List ℕ → Type 0
-  AgreeFrom m n = Agree t (normalTableOf (startPcr s)) (alternateTableOf (startPcr s)) (ringOf (startPcr s)) m n
+  AgreeFrom m n =
+      let p = startPcr s in Agree (startForm s) t (normalTableOf p) (alternateTableOf p) (ringOf p) m n
 
   abbrev MemoriesFrom : List ℕ → List ℕ → List ℕ → List ℕ → Type 0
   MemoriesFrom m n m′ n′ =
-      EvenMemories t (normalTableOf (startPcr s)) (alternateTableOf (startPcr s)) (ringOf (startPcr s)) m n m′ n′
+      let p = startPcr s in
+      EvenMemories (startForm s) t (normalTableOf p) (alternateTableOf p) (ringOf p) m n m′ n′
 
   abbrev EvenFrom : List ℕ → List ℕ → Run → Run → Type 0
   EvenFrom m n r q =
-      EvenRun t (normalTableOf (startPcr s)) (alternateTableOf (startPcr s)) (ringOf (startPcr s)) m n r q
+      let p = startPcr s in EvenRun (startForm s) t (normalTableOf p) (alternateTableOf p) (ringOf p) m n r q
 
   -- a page that is not permitted is not permitted for writing
   foreign-unwritten : (page : ℕ) → reachable s t page ≡ false → writable s t page ≡ false
@@ -59,9 +61,9 @@ module _ (s : State) (t : List ℕ) where
     where
       go : (x : Bool) → writable s t page ≡ x → writable s t page ≡ false
       go true q =
+          let p = startPcr s in
           absurd
-          (no-both (sym f ∙ writing-permitted t (normalTableOf (startPcr s)) (alternateTableOf (startPcr s))
-          (ringOf (startPcr s)) page q))
+          (no-both (sym f ∙ writing-permitted (startForm s) t (normalTableOf p) (alternateTableOf p) (ringOf p) page q))
       go false q = q
 
   -- from m and n to m′ and n′: a word of a foreign page is as it was in each, and of any other page is the same in both
@@ -115,8 +117,8 @@ module _ (s : State) (t : List ℕ) where
     differing = λ k f. (refl, refl);
     no-other = λ k f. f;
     count = refl;
-    left = record { size = refl; unwritten = λ k f. refl; marks = λ i. same-entry (entryAt t i) };
-    right = record { size = refl; unwritten = λ k f. refl; marks = λ i. same-entry (entryAt t i) };
+    left = record { size = refl; unwritten = λ k f. refl; marks = λ i. same-entry (entryAt (startForm s) t i) };
+    right = record { size = refl; unwritten = λ k f. refl; marks = λ i. same-entry (entryAt (startForm s) t i) };
   }
 
 -- THE THEOREM: run to the first interrupt from two starts that are alike, for any number of steps, 0 included.
@@ -131,11 +133,11 @@ isolation c s t m n h = rw (← answer-same s t m n (h .alike .size)) (go (state
     go : (x : Answer) → Isolated s t m n (runCallBy x true c s m t) (runCallBy x true c s n t)
     go Done =
         even-isolated s t m n (runFrom true c 0 s m t) (runFrom true c 0 s n t) agree
-        (run-even t (normalTableOf (startPcr s)) (alternateTableOf (startPcr s)) (ringOf (startPcr s)) (h .ring-low) c
-        0 s m n t
-        (record { paging-on = h .paging-on; ring-low = le-refl _; normal = refl; alternate = refl })
+        (run-even (startForm s) t (normalTableOf (startPcr s)) (alternateTableOf (startPcr s)) (ringOf (startPcr s))
+        (h .ring-low) c 0 s m n t
+        (record { paging-on = h .paging-on; entries = refl; ring-low = le-refl _; normal = refl; alternate = refl })
         agree
-        (λ i. same-entry (entryAt t i)))
+        (λ i. same-entry (entryAt (startForm s) t i)))
     go (Refused x) = refused-isolated s t m n x
 
 -- Two starts that are refused, with equally much memory and equal in all but memory's words, get the same refusal and

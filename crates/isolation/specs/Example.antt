@@ -1,13 +1,15 @@
--- A worked pair: a regulator on level 1, ring 1, beside a page that is not its own. docs/ISOLATION.md tells it in
--- prose.
-use Prim.Native.Nat.{ℕ, _+_}
+-- A worked pair: a regulator on level 1, ring 1, beside a page that is not its own, in 19-bit mode and in extended
+-- mode. docs/ISOLATION.md tells it in prose.
+use Prim.Native.Nat.{ℕ, _+_, _*_}
 use mathlib.Core.Path.{_≡_, refl}
-use mathlib.Core.Bool.{true, false}
+use mathlib.Core.Bool.{Bool, true, false, cond}
 use mathlib.Core.List.{List, [], _∷_, _++_}
 use lib.ListN.{getD, replicate}
-use Rattle.isa.specs.Machine.{fileAt, putFile, inRange, sizesFit, stateWith}
+use Rattle.isa.specs.Machine.{flagOf, fileAt, putFile, inRange, sizesFit, stateWith}
+use Rattle.isa.specs.System.{withExtended}
 use Rattle.isa.specs.Flags.{adder, withOverflow, withSum, productOverflow, divisionFails, leftOnce, rightOnce}
-use Rattle.isa.specs.Decode.{byCode, byNumber, decode, traOf, trrOf, maskedOf, switchOf, srbOf, lrbOf, shiftOf}
+use Rattle.isa.specs.Decode.{byCode, byNumber, decode, traOf, trrOf, maskedOf, switchOf, transferOf, srbOf, lrbOf}
+use Rattle.isa.specs.Decode.{shiftOf}
 use Rattle.isa.specs.Address.{firstAddress}
 use Rattle.isa.specs.Instructions.{divided}
 use Rattle.isa.specs.Pages.{withinMemory, judged, inWindow, translate, marked, lowered}
@@ -44,15 +46,27 @@ right = own ++ (0o022222 ∷ 0o000002 ∷ replicate 1022 0)
 
 -- Normal table 0: virtual page 0 is the program's (fetch and read, ring 1), page 2 names physical page 2 for ring 3.
 -- Alternate table 1: virtual page 1 is the message's (read and write, ring 1), page 2 names physical page 2 with no
--- permit at all.
-abbrev pub tables : List ℕ
-tables = 0o061000 ∷ 0 ∷ 0o163002 ∷ (replicate 61 0 ++ (0 ∷ 0o141001 ∷ 0o000002 ∷ replicate 189 0))
+-- permit at all. Both modes have the same entries, each in its form; in 19-bit mode the words from 256 on are 0.
+abbrev pub entry : Bool → ℕ → ℕ → List ℕ
+entry form permits page = cond form (permits ∷ page ∷ []) ((permits + page) ∷ [])
 
--- Level 1 with P as given, B at virtual page 1, X at virtual page 2; paging on; PCR: ring 1, alternate table 1, normal
--- table 0.
-abbrev pub pairStart : ℕ → State
-pairStart p =
-    stateWith 1 (quiet 1) (replicate 8 0 ++ (0 ∷ 0 ∷ p ∷ 0o002000 ∷ 0 ∷ 0 ∷ 0 ∷ 0o004000 ∷ replicate 112 0))
+abbrev pub noEntries : Bool → ℕ → List ℕ
+noEntries form n = replicate (cond form (n * 2) n) 0
+
+abbrev pub tables : Bool → List ℕ
+tables form =
+    entry form 0o061000 0
+    ++ (noEntries form 1
+    ++ (entry form 0o163000 2
+    ++ (noEntries form 62
+    ++ (entry form 0o141000 1 ++ (entry form 0 2 ++ (noEntries form 189 ++ replicate (cond form 0 256) 0))))))
+
+-- Level 1 with P as given, B at virtual page 1, X at virtual page 2; paging on, in the mode given; PCR: ring 1,
+-- alternate table 1, normal table 0.
+abbrev pub pairStart : Bool → ℕ → State
+pairStart form p =
+    stateWith 1 (withExtended (quiet 1) (flagOf form))
+    (replicate 8 0 ++ (0 ∷ 0 ∷ p ∷ 0o002000 ∷ 0 ∷ 0 ∷ 0 ∷ 0o004000 ∷ replicate 112 0))
     (0 ∷ 0o201 ∷ replicate 14 0)
 
 -- What is looked at after a run: steps taken, A, P and STS of level 1, IID, PGS, the message, and the two foreign
@@ -70,34 +84,44 @@ seen r =
     ∷ getD (r .memory) 2049 0
     ∷ []
 
-abbrev pub run : ℕ → List ℕ → RunCall
-run p m = runCall true 100 (pairStart p) m tables
+abbrev pub run : Bool → ℕ → List ℕ → RunCall
+run form p m = runCall true 100 (pairStart form p) m (tables form)
 
 -- By the alternate table an entry without permits gives interrupt 3 (IID 000010), PGS 040000 + table 1, page 2; by the
 -- normal table ring 3 gives interrupt 2 (IID 000004), PGS table 0, page 2. The message is 000010 in every run; the
--- foreign words are as they were.
-unfoldable pub pair : List (List ℕ × List ℕ)
-pair =
-    (seen (run 0o00 left), 5 ∷ 8 ∷ 5 ∷ 1 ∷ 8 ∷ 0o040102 ∷ 8 ∷ 0o111111 ∷ 1 ∷ [])
-    ∷ (seen (run 0o00 right), 5 ∷ 8 ∷ 5 ∷ 1 ∷ 8 ∷ 0o040102 ∷ 8 ∷ 0o022222 ∷ 2 ∷ [])
-    ∷ (seen (run 0o10 left), 5 ∷ 8 ∷ 13 ∷ 1 ∷ 8 ∷ 0o040102 ∷ 8 ∷ 0o111111 ∷ 1 ∷ [])
-    ∷ (seen (run 0o10 right), 5 ∷ 8 ∷ 13 ∷ 1 ∷ 8 ∷ 0o040102 ∷ 8 ∷ 0o022222 ∷ 2 ∷ [])
-    ∷ (seen (run 0o20 left), 6 ∷ 8 ∷ 22 ∷ 0 ∷ 4 ∷ 0o000002 ∷ 8 ∷ 0o111111 ∷ 1 ∷ [])
-    ∷ (seen (run 0o20 right), 6 ∷ 8 ∷ 22 ∷ 0 ∷ 4 ∷ 0o000002 ∷ 8 ∷ 0o022222 ∷ 2 ∷ [])
-    ∷ (seen (run 0o30 left), 6 ∷ 8 ∷ 30 ∷ 0 ∷ 4 ∷ 0o000002 ∷ 8 ∷ 0o111111 ∷ 1 ∷ [])
-    ∷ (seen (run 0o30 right), 6 ∷ 8 ∷ 30 ∷ 0 ∷ 4 ∷ 0o000002 ∷ 8 ∷ 0o022222 ∷ 2 ∷ [])
+-- foreign words are as they were. PGS names the slot, in either mode.
+unfoldable pub pair : Bool → List (List ℕ × List ℕ)
+pair form =
+    (seen (run form 0o00 left), 5 ∷ 8 ∷ 5 ∷ 1 ∷ 8 ∷ 0o040102 ∷ 8 ∷ 0o111111 ∷ 1 ∷ [])
+    ∷ (seen (run form 0o00 right), 5 ∷ 8 ∷ 5 ∷ 1 ∷ 8 ∷ 0o040102 ∷ 8 ∷ 0o022222 ∷ 2 ∷ [])
+    ∷ (seen (run form 0o10 left), 5 ∷ 8 ∷ 13 ∷ 1 ∷ 8 ∷ 0o040102 ∷ 8 ∷ 0o111111 ∷ 1 ∷ [])
+    ∷ (seen (run form 0o10 right), 5 ∷ 8 ∷ 13 ∷ 1 ∷ 8 ∷ 0o040102 ∷ 8 ∷ 0o022222 ∷ 2 ∷ [])
+    ∷ (seen (run form 0o20 left), 6 ∷ 8 ∷ 22 ∷ 0 ∷ 4 ∷ 0o000002 ∷ 8 ∷ 0o111111 ∷ 1 ∷ [])
+    ∷ (seen (run form 0o20 right), 6 ∷ 8 ∷ 22 ∷ 0 ∷ 4 ∷ 0o000002 ∷ 8 ∷ 0o022222 ∷ 2 ∷ [])
+    ∷ (seen (run form 0o30 left), 6 ∷ 8 ∷ 30 ∷ 0 ∷ 4 ∷ 0o000002 ∷ 8 ∷ 0o111111 ∷ 1 ∷ [])
+    ∷ (seen (run form 0o30 right), 6 ∷ 8 ∷ 30 ∷ 0 ∷ 4 ∷ 0o000002 ∷ 8 ∷ 0o022222 ∷ 2 ∷ [])
     ∷ []
 
-pub pair-holds : given pair ≡ stated pair
+pub pair-holds : (given (pair false) ≡ stated (pair false)) × (given (pair true) ≡ stated (pair true))
 unfolding pair runCall stateAnswer sizesFit inRange fileAt putFile adder withOverflow withSum productOverflow
-    divisionFails leftOnce rightOnce byCode byNumber decode traOf trrOf maskedOf switchOf srbOf lrbOf shiftOf
-    firstAddress divided withinMemory judged inWindow translate marked lowered step interrupted faulted finished
+    divisionFails leftOnce rightOnce byCode byNumber decode traOf trrOf maskedOf switchOf transferOf srbOf lrbOf
+    shiftOf firstAddress divided withinMemory judged inWindow translate marked lowered step interrupted faulted finished
     operandsTested operands indirectTested userStage examined deposited instructionStage fetched stepIn putOther
     blockStored blockLoaded farStage settled changeDue levelChanged
-pair-holds = refl
+pair-holds = (refl, refl)
 
--- the pages that are permitted to the start, for reading and for writing
-pub pages-hold : reachable (pairStart 0) tables 0 ∷ reachable (pairStart 0) tables 1 ∷ reachable (pairStart 0) tables 2
-    ∷ writable (pairStart 0) tables 0 ∷ writable (pairStart 0) tables 1 ∷ [] ≡ true ∷ true ∷ false ∷ false ∷ true ∷ []
+-- the pages that are permitted to the start: 0 to 2 for reading, 0 and 1 for writing
+abbrev pub pages : Bool → List Bool
+pages form =
+    let s = pairStart form 0 in
+    reachable s (tables form) 0
+    ∷ reachable s (tables form) 1
+    ∷ reachable s (tables form) 2
+    ∷ writable s (tables form) 0
+    ∷ writable s (tables form) 1
+    ∷ []
+
+pub pages-hold : (form : Bool) → pages form ≡ true ∷ true ∷ false ∷ false ∷ true ∷ []
 unfolding inEither
-pages-hold = refl
+pages-hold true = refl
+pages-hold false = refl

@@ -7,7 +7,8 @@ use lib.ListN.{getD, length}
 use Rattle.isa.specs.Machine.{ringOf}
 use Rattle.isa.specs.Pages.{entryAt}
 use Rattle.isa.specs.Answers.{RunCall}
-use Rattle.isa.specs.Isolation.{AlikeStarts, MarksAlone, startPcr, writable, differs, differingWords}
+use Rattle.isa.specs.Isolation.{AlikeStarts, MarksAlone, startPcr, startForm, writable, differs}
+use Rattle.isa.specs.Isolation.{differingWords}
 use Rattle.isa.specs.declared.machine.State.{State}
 use Rattle.isa.specs.declared.answer.Refusal.{Refusal}
 use Rattle.isa.specs.declared.answer.RunAnswer.the-variants.{Refused}
@@ -28,8 +29,9 @@ pub record Confined (s : State) (t m : List ℕ) (r : RunCall) : Type 0 where
   -- "in each run every word of a page not permitted for writing is as it was"; past the end there is none, and `getD`
   -- gives 0
   pub unwritten : (k : ℕ) → writable s t (k / 1024) ≡ false → getD (r .memory) k 0 ≡ getD m k 0
-  -- page tables are changed in their marks alone, so that permits, rings and pages are those of the start
-  pub marks : (i : ℕ) → MarksAlone (entryAt (r .tables) i) (entryAt t i)
+  -- the entries, in the form of the start, are changed in their marks alone, so that permits, rings and pages are
+  -- those of the start
+  pub marks : (i : ℕ) → MarksAlone (entryAt (startForm s) (r .tables) i) (entryAt (startForm s) t i)
 
 -- What the two runs r, from m, and q, from n, leave.
 pub record Isolated (s : State) (t m n : List ℕ) (r q : RunCall) : Type 0 where

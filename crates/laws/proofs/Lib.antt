@@ -1,8 +1,12 @@
 pub mod Far
+pub mod Fetch
+pub mod Stages
+pub mod Steady
 pub mod Levels
 pub mod Registers
 pub mod Faults
 pub mod Rings
 pub mod Status
+pub mod Extended
 pub mod Views
 pub mod Numbers

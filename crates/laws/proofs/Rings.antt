@@ -15,7 +15,7 @@ use Rattle.isa.proofs.Tests.{decided}
 use Rattle.laws.specs.Statement.{fetchRing, PrivilegedTrapped}
 
 -- with paging on, ring 0 or 1 is not privileged
-not-privileged : (c : Core) → c .control .paging ≡ 1 → ringOf (c .pcr) ≤ 1 → privileged c ≡ false
+pub not-privileged : (c : Core) → c .control .paging ≡ 1 → ringOf (c .pcr) ≤ 1 → privileged c ≡ false
 not-privileged c on low = rw (eq-eqb (c .control .paging) 1 on, lt-leb 2 (ringOf (c .pcr)) (omega arith))
 
 -- after a passed fetch the user's ring is not above the entry's

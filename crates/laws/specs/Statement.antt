@@ -1,32 +1,37 @@
 -- What document 01, and document 02 after it, says of a step, a run and a view that follows from their definitions:
 -- each law under its sentence.
-use Rattle.isa.specs.Machine.{levelCount, registerWords, controlOf}
+use Rattle.isa.specs.Machine.{wordRange, levelCount, registerWords, controlOf}
 use Prim.Native.Nat.{ℕ, zero, suc, _+_, _<_, _≤_}
 use mathlib.Core.Path.{_≡_}
 use mathlib.Core.Bool.{Bool, true, false, cond, _||_}
 use mathlib.Core.List.{List, []}
 use lib.ListN.{getD, set, length}
 use lib.Dec.{eqb}
-use Rattle.isa.specs.Machine.{bit, reg, coreOf, normalTableOf}
-use Rattle.isa.specs.Address.{sum}
-use Rattle.isa.specs.System.{withPagingStatus}
+use Rattle.isa.specs.Machine.{bit, reg, coreOf, ringOf, normalTableOf}
+use Rattle.isa.specs.Address.{sum, access}
+use Rattle.isa.specs.System.{withPagingStatus, withExtended}
 use Rattle.isa.specs.Pages.{slotOf, entryAt, translate, marked, passes, wordAt, rightsOf}
+use Rattle.isa.specs.Physical.{physicalPlace}
 use Rattle.isa.specs.Step.{Turn, turn, withPgs, privileged, instructionOf, afterFetch, fetchOf, placeOf, registerAt}
 use Rattle.isa.specs.Step.{isStopped, changeDue, step}
 use Rattle.isa.specs.Run.{runFrom}
 use Rattle.isa.specs.Answers.{refusalNumber, reasonNumber, answerNumbers, stepNumbers, runNumbers, stepTold, runTold}
 use Rattle.isa.specs.Answers.{raiseTold, loadTold, writeTold, viewTold, stepCall, runCall, raiseCall, loadCall}
 use Rattle.isa.specs.Answers.{writeAnswer, targetOf, viewAnswer, viewed}
-use Rattle.isa.specs.Isolation.{MarksAlone}
+use Rattle.isa.specs.Isolation.{MarksAlone, startPcr, startForm}
 use Rattle.isa.specs.declared.machine.Control.{Control}
+use Rattle.isa.specs.declared.machine.Core.{Core}
 use Rattle.isa.specs.declared.machine.State.{State}
 use Rattle.isa.specs.declared.machine.Register.the-variants.{P, A}
 use Rattle.isa.specs.declared.instruction.Readable.the-variants.{Pgs}
-use Rattle.isa.specs.declared.instruction.ControlOp.the-variants.{Tra}
+use Rattle.isa.specs.declared.instruction.ControlOp.{ControlOp}
+use Rattle.isa.specs.declared.instruction.ControlOp.the-variants.{Sex, Rex, Tra}
 use Rattle.isa.specs.declared.instruction.System.{System}
 use Rattle.isa.specs.declared.instruction.System.the-variants.{Control as ControlOf}
 use Rattle.isa.specs.declared.instruction.Instruction.{Instruction}
 use Rattle.isa.specs.declared.instruction.Instruction.the-variants.{Privileged}
+use Rattle.isa.specs.declared.access.AccessKind.{AccessKind}
+use Rattle.isa.specs.declared.access.Rights.{Rights}
 use Rattle.isa.specs.declared.access.Translation.{Translation}
 use Rattle.isa.specs.declared.access.Translation.the-variants.{Load, Protection, PageFault}
 use Rattle.isa.specs.declared.answer.Reason.{Reason}
@@ -69,11 +74,13 @@ faultP s m t =
     let p = registerAt s (s .level) P in
     cond (passes (fetchOutcome s m t)) (sum p 1) p
 
--- what the step leaves: memory as it was, the entries of the page tables but for their marks, and each register of each
--- level as it was, but for the running level's P
+-- what the step leaves: memory as it was, the entries of the page tables but for their marks, and, so that nothing is
+-- stored in an entry's other bits, each of their words but for bits 12 and 11; and each register of each level as it
+-- was, but for the running level's P
 pub record LeavesAllButP (s : State) (m t : List ℕ) (r : Turn) : Type 0 where
   pub memory : r .memory ≡ m
-  pub tables : (i : ℕ) → MarksAlone (entryAt (r .tables) i) (entryAt t i)
+  pub tables : (i : ℕ) → MarksAlone (entryAt (startForm s) (r .tables) i) (entryAt (startForm s) t i)
+  pub words : (i : ℕ) → MarksAlone (entryAt false (r .tables) i) (entryAt false t i)
   pub registers : r .state .regs ≡ set (s .regs) (placeOf (s .level) P) (faultP s m t)
 
 abbrev pub FaultLeavesAllButP : Type 0
@@ -94,13 +101,7 @@ pub record Fetches (s : State) (m t : List ℕ) (p : ℕ) : Type 0 where
 
 -- the ring of that entry, in the normal table
 abbrev pub fetchRing : State → List ℕ → ℕ
-fetchRing s t = entryAt t (slotOf (normalTableOf (coreOf s .pcr)) (reg (coreOf s .file) P)) .ring
-
--- the instruction that the step fetches, or that an EXR brings in; u is the page tables with the fetch's mark
-abbrev pub fetchedInstruction : State → List ℕ → List ℕ → Instruction
-fetchedInstruction s m t =
-    let u = marked t (length m) (rightsOf (coreOf s)) (fetchOf (coreOf s)) in
-    instructionOf (coreOf s) (wordAt m u (fetchOutcome s m t))
+fetchRing s t = entryAt (startForm s) t (slotOf (normalTableOf (coreOf s .pcr)) (reg (coreOf s .file) P)) .ring
 
 -- on ring 0 or 1 a privileged code, by an EXR too, gives 6, whatever the user's ring was
 abbrev pub PrivilegedTrapped : Type 0
@@ -108,16 +109,31 @@ PrivilegedTrapped =
     (s : State) (m t : List ℕ) (p : ℕ) (o : System) → Fetches s m t p → fetchRing s t ≤ 1
     → instructionOf (coreOf s) (getD m p 0) ≡ Privileged o → step s m t .gave ≡ 6
 
--- ---- Document 02, card 3: "PGS shall keep the first fault until TRA PGS is executed, and only then take another."
+-- what the step's fetch leaves: the running level, of which it may lower the ring; the page tables, with its mark
+abbrev pub fetchedCore : State → List ℕ → List ℕ → Core
+fetchedCore s m t = afterFetch (coreOf s) (fetchRing s t) (fetchOutcome s m t)
 
--- the step executes TRA PGS: the machine is not stopped and no change of level is due, the fetch passes, TRA PGS is
--- fetched or brought in by an EXR, and the ring that the fetch leaves permits it
-pub record ReadsPgs (s : State) (m t : List ℕ) : Type 0 where
+abbrev pub fetchedTables : State → List ℕ → List ℕ → List ℕ
+fetchedTables s m t = marked t (length m) (rightsOf (coreOf s)) (fetchOf (coreOf s))
+
+-- the instruction that it fetches, or that an EXR brings in
+abbrev pub fetchedInstruction : State → List ℕ → List ℕ → Instruction
+fetchedInstruction s m t = instructionOf (coreOf s) (wordAt m (fetchedTables s m t) (fetchOutcome s m t))
+
+-- the step executes the privileged instruction o: the machine is not stopped and no change of level is due, the fetch
+-- passes, o is fetched or brought in by an EXR, and the ring that the fetch leaves permits it
+pub record Executes (o : System) (s : State) (m t : List ℕ) : Type 0 where
   pub runs : isStopped s ≡ false
   pub level-stays : changeDue s ≡ false
   pub passed : passes (fetchOutcome s m t) ≡ true
-  pub code : fetchedInstruction s m t ≡ Privileged (ControlOf (Tra Pgs))
-  pub permitted : privileged (afterFetch (coreOf s) (fetchRing s t) (fetchOutcome s m t)) ≡ true
+  pub code : fetchedInstruction s m t ≡ Privileged o
+  pub permitted : privileged (fetchedCore s m t) ≡ true
+
+-- ---- Document 02, card 3: "PGS shall keep the first fault until TRA PGS is executed, and only then take another."
+
+-- the step executes TRA PGS
+abbrev pub ReadsPgs : State → List ℕ → List ℕ → Type 0
+ReadsPgs = Executes (ControlOf (Tra Pgs))
 
 -- PGS and whether it is held are in q as they are in k
 abbrev pub SameStatus : Control → Control → Type 0
@@ -146,7 +162,7 @@ StatusStays =
     → SameStatus (controlOf s) (controlOf (step s m t .state))
 
 -- ruling 42: TRA PGS gives A the word PGS, and releases PGS, which keeps its value; it changes no other of the control
--- words 1 to 9 and 26
+-- words 1 to 9, 26 and 27
 abbrev pub ReadingReleases : Type 0
 ReadingReleases =
     (s : State) (m t : List ℕ) → ReadsPgs s m t
@@ -169,6 +185,56 @@ HeldThroughRun =
     → ((j : ℕ) → j < runFrom first n 0 s m t .steps
     → let r = stepped j s m t in ReadsPgs (r .state) (r .memory) (r .tables) → ⊥)
     → SameStatus (controlOf s) (controlOf (runFrom first n 0 s m t .state))
+
+-- ---- Document 02, card 4: "Add SEX and REX, the extended flag (control word 27, ..)"
+
+-- ruling R6: no step but one that executes SEX or REX changes the flag, whatever else it does
+abbrev pub ExtendedStays : Type 0
+ExtendedStays =
+    (s : State) (m t : List ℕ) → (Executes (ControlOf Sex) s m t → ⊥) → (Executes (ControlOf Rex) s m t → ⊥)
+    → step s m t .state .added .extended ≡ s .added .extended
+
+-- with paging on, a step on ring 0 or 1 cannot change it; ruling R12: nor can a run to the first interrupt
+abbrev pub LowRingKeepsExtended : Type 0
+LowRingKeepsExtended =
+    (s : State) (m t : List ℕ) → s .control .paging ≡ 1 → ringOf (startPcr s) ≤ 1
+    → step s m t .state .added .extended ≡ s .added .extended
+
+abbrev pub LowRingRunKeepsExtended : Type 0
+LowRingRunKeepsExtended =
+    (n : ℕ) (s : State) (m t : List ℕ) → s .control .paging ≡ 1 → ringOf (startPcr s) ≤ 1
+    → runFrom true n 0 s m t .state .added .extended ≡ s .added .extended
+
+-- what a step leaves that sets the flag to x and does nothing else: no interrupt is given; memory, the page tables but
+-- for the fetch's mark, the registers but for the running level's P, the PCRs but for a ring that the fetch lowered,
+-- and all other control words are as they were
+pub record SetsFlagAlone (x : ℕ) (s : State) (m t : List ℕ) (r : Turn) : Type 0 where
+  pub gave : r .gave ≡ 0
+  pub memory : r .memory ≡ m
+  pub tables : r .tables ≡ fetchedTables s m t
+  pub registers : r .state .regs ≡ set (s .regs) (placeOf (s .level) P) (sum (registerAt s (s .level) P) 1)
+  pub pcrs : r .state .pcr ≡ set (s .pcr) (s .level) (fetchedCore s m t .pcr)
+  pub level : r .state .level ≡ s .level
+  pub control : controlOf (r .state) ≡ withExtended (controlOf s) x
+
+-- SEX sets it to 1, REX to 0
+abbrev pub SwitchSets : ControlOp → ℕ → Type 0
+SwitchSets o x =
+    (s : State) (m t : List ℕ) → s .level < levelCount → length (s .regs) ≡ registerWords
+    → Executes (ControlOf o) s m t → SetsFlagAlone x s m t (step s m t)
+
+abbrev pub SexSetsRexClears : Type 0
+SexSetsRexClears = SwitchSets Sex 1 × SwitchSets Rex 0
+
+-- ---- Document 02, card 4: "The seven go by physical address, no carry dropped, paging on or off, page tables included
+-- ---- where the mode has them; past the memory they give 9."
+
+-- so with paging off, where addresses are physical, each access goes where the seven go by its address
+abbrev pub PhysicalByAddress : Type 0
+PhysicalByAddress =
+    (t : List ℕ) (words : ℕ) (r : Rights) (k : AccessKind) (alternate : Bool) (a : ℕ) → r .paging ≡ false
+    → a < wordRange
+    → translate t words r (access k alternate a) ≡ physicalPlace (r .extended) words k a
 
 -- ---- "View: .. It answers a part of the caller's memory or of the caller's page tables." "a refused view is empty"
 

@@ -53,7 +53,7 @@ fn tested(
     let f = c.file;
     put_file(regs, level, f);
     let w = c.control;
-    let r = rights(f.get(Register::Sts), c.pcr, w.paging);
+    let r = rights(f.get(Register::Sts), c.pcr, w.paging, w.extended);
     test_block(tables, words, r, k, f.get(Register::X))
 }
 

@@ -117,7 +117,7 @@ unfolding translate
 write-stored t words r b a =
     either Stored (inWindow r a) (λ h. refl)
     (either Stored (r .paging)
-    (judged-stored (entryAt t (slotOf (tableOf r b) a)) (slotOf (tableOf r b) a) words (r .ring) a)
+    (judged-stored (entryAt (r .extended) t (slotOf (tableOf r b) a)) (slotOf (tableOf r b) a) words (r .ring) a)
     (within-stored words a))
 
 -- the places of a block that is written

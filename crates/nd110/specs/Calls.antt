@@ -17,14 +17,14 @@ use Rattle.isa.specs.declared.answer.Target.the-variants.{Memory, Tables}
 use Rattle.isa.specs.declared.answer.RunAnswer.{RunAnswer}
 use Rattle.isa.specs.declared.answer.RunAnswer.the-variants.{Ran, Refused}
 
--- the state of 155 words in image order, 128 registers and 27 control words, and the words of a state
+-- the state of 156 words in image order, 128 registers and 28 control words, and the words of a state
 abbrev pub stateIn : List ℕ → State
 stateIn w = stateOf (take registerWords w) (drop registerWords w)
 
 abbrev pub stateOrdered : State → List ℕ
 stateOrdered s = s .regs ++ controlWords s
 
--- the number of a call that is no operation: a state of other than 155 words, a view of an unknown kind or into too few
+-- the number of a call that is no operation: a state of other than 156 words, a view of an unknown kind or into too few
 -- words, a conversion into other than the words of its form; document 02 gives 11 to 18 to its requests
 abbrev pub badCall : ℕ
 badCall = 255

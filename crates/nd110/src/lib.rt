@@ -54,7 +54,7 @@ use words::copy;
 // The number of a call that is no operation.
 const BAD_CALL: u16 = 255;
 
-// A state, to the lent words in image order: 128 registers, then 27 control words.
+// A state, to the lent words in image order: 128 registers, then 28 control words.
 fn put_state(s: State, words: &mut [u16])
     requires { ⌜ length (now words) ≡ stateWords ⌝ }
     ensures { λ _. ⌜ now (words .exit) ≡ stateOrdered s ⌝ }

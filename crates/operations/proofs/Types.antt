@@ -37,5 +37,6 @@ typed s vs h =
           (cons-words (s .control .pgs) (drop 10 w) (omega arith)
           (append-words (s .pcr) (addedWords (controlOf s))
           (λ i. elem-fits-field w16 w16 (s .pcr) (q .1 .1 .1 .0 .0) i (q .1 .1 .1 .0 .1 .1) tt .fits)
-          (cons-words (s .added .held) [] (omega arith) nil-words)))))))))));
+          (cons-words (s .added .held) (drop 1 (addedWords (controlOf s))) (omega arith)
+          (cons-words (s .added .extended) [] (omega arith) nil-words))))))))))));
     }

@@ -6,13 +6,13 @@ use native.Mathlib.Decide.{ℕ-discrete}
 use mathlib.Core.Path.{_≡_, refl}
 use mathlib.Core.Bool.{Bool, true, false, cond, not, _||_, and-false}
 use mathlib.Core.List.{List}
-use lib.ListN.{getD, set}
+use lib.ListN.{getD}
 use lib.Dec.{ltb, eqb}
 use borrow.Author.Tests.{ltb-true, eq-eqb, ne-eqb}
 use Rattle.isa.specs.Machine.{tableWords, bit}
-use Rattle.isa.specs.Pages.{Entry, entryOf, entryAt, slotOf, somePermit, needed, ringAllows, physical, pagingStatus}
-use Rattle.isa.specs.Pages.{inMemory, inTables, withinMemory, judged, tableOf, inWindow, translate, passes, markOf}
-use Rattle.isa.specs.Pages.{marked}
+use Rattle.isa.specs.Pages.{Entry, entryOf, entryAt, firstWord, slotOf, somePermit, needed, ringAllows, physical}
+use Rattle.isa.specs.Pages.{pagingStatus, inMemory, inTables, withinMemory, judged, tableOf, windowWords, inWindow}
+use Rattle.isa.specs.Pages.{translate, passes, withMark, marked}
 use Rattle.isa.specs.declared.access.Access.{Access}
 use Rattle.isa.specs.declared.access.AccessKind.{AccessKind}
 use Rattle.isa.specs.declared.access.AccessKind.the-variants.{Fetch, Read, Write, Indirect}
@@ -40,20 +40,20 @@ all-zero e l p h = go (e / 8192) (e / 32768) (omega arith) (omega arith) p h
     go : (u v : ℕ) → v ≡ u / 4 → u < 8 → (v % 2 ≡ 1 → ⊥) → u % 4 ≡ 0 → u ≡ 0
     go u v h k x y = omega arith
 
-pub read-or-fetch : (e : ℕ) → not (eqb (e / 8192 % 4) 0) ≡ (entryOf e .read || entryOf e .fetch)
+pub read-or-fetch : (e : ℕ) → not (eqb (e / 8192 % 4) 0) ≡ (entryOf e 0 .read || entryOf e 0 .fetch)
 read-or-fetch e = go (ℕ-discrete (e / 16384 % 2) 1) (ℕ-discrete (e / 8192 % 2) 1)
   where
     go : Dec (e / 16384 % 2 ≡ 1) → Dec (e / 8192 % 2 ≡ 1)
-        → not (eqb (e / 8192 % 4) 0) ≡ (entryOf e .read || entryOf e .fetch)
+        → not (eqb (e / 8192 % 4) 0) ≡ (entryOf e 0 .read || entryOf e 0 .fetch)
     go (yes p) d = simp (eq-eqb _ _ p, ne-eqb (e / 8192 % 4) 0 (λ q. omega (arith, p, q)))
     go (no p) (yes q) = simp (ne-eqb _ _ p, eq-eqb _ _ q, ne-eqb (e / 8192 % 4) 0 (λ z. omega (arith, q, z)))
     go (no p) (no q) = simp (ne-eqb _ _ p, ne-eqb _ _ q, eq-eqb (e / 8192 % 4) 0 (both-zero e p q))
 
-pub any-permit : (e : ℕ) → e < 65536 → not (eqb (e / 8192) 0) ≡ somePermit (entryOf e)
+pub any-permit : (e : ℕ) → e < 65536 → not (eqb (e / 8192) 0) ≡ somePermit (entryOf e 0)
 any-permit e l = go (ℕ-discrete (e / 32768 % 2) 1) (ℕ-discrete (e / 16384 % 2) 1) (ℕ-discrete (e / 8192 % 2) 1)
   where
     go : Dec (e / 32768 % 2 ≡ 1) → Dec (e / 16384 % 2 ≡ 1) → Dec (e / 8192 % 2 ≡ 1)
-        → not (eqb (e / 8192) 0) ≡ somePermit (entryOf e)
+        → not (eqb (e / 8192) 0) ≡ somePermit (entryOf e 0)
     go (yes p) d f = simp (eq-eqb _ _ p, ne-eqb (e / 8192) 0 (λ z. omega (arith, p, z)))
     go (no p) (yes q) f = simp (ne-eqb _ _ p, eq-eqb _ _ q, ne-eqb (e / 8192) 0 (λ z. omega (arith, q, z)))
     go (no p) (no q) (yes r) =
@@ -80,6 +80,11 @@ needed-some e Indirect h = go (e .write)
     go : (x : Bool) → (x || e .read || e .fetch) ≡ true
     go true = refl
     go false = h
+
+-- the entry of the word at the place i and of the page p, which are those of a slot
+pub entry-by : (form : Bool) (t : List ℕ) (slot : ℕ) {i p : ℕ} → i ≡ firstWord form slot → p ≡ entryAt form t slot .page
+    → entryOf (getD t i 0) p ≡ entryAt form t slot
+entry-by form t slot at named = λ j. entryOf (getD t (at j) 0) (named j)
 
 -- ---- the outcomes of the tests by an entry
 
@@ -117,7 +122,8 @@ refused-fails false g = refl
 -- ---- the three ways of an access: the window, the tables, and paging off
 
 module _ (t : List ℕ) (words : ℕ) (r : Rights) (x : Access) where
-  pub window-translated : inWindow r (x .address) ≡ true → translate t words r x ≡ inTables (x .kind) (x .address % 256)
+  pub window-translated : inWindow r (x .address) ≡ true
+      → translate t words r x ≡ inTables (x .kind) (x .address % windowWords (r .extended))
   unfolding translate
   window-translated h = simp h
 
@@ -128,7 +134,7 @@ module _ (t : List ℕ) (words : ℕ) (r : Rights) (x : Access) where
   module _ (h : inWindow r (x .address) ≡ false) where
     pub paged-translated : r .paging ≡ true
         → translate t words r x
-        ≡ judged (entryAt t (slotOf (tableOf r (x .alternate)) (x .address)))
+        ≡ judged (entryAt (r .extended) t (slotOf (tableOf r (x .alternate)) (x .address)))
         (slotOf (tableOf r (x .alternate)) (x .address)) words (r .ring) (x .kind) (x .address)
     unfolding translate
     paged-translated on = simp (h, on)
@@ -136,8 +142,7 @@ module _ (t : List ℕ) (words : ℕ) (r : Rights) (x : Access) where
     pub paged-marked : r .paging ≡ true
         → marked t words r x
         ≡ cond (passes (translate t words r x))
-        (set t (slotOf (tableOf r (x .alternate)) (x .address))
-        (markOf (x .kind) (getD t (slotOf (tableOf r (x .alternate)) (x .address)) 0))) t
+        (withMark (r .extended) t (slotOf (tableOf r (x .alternate)) (x .address)) (x .kind)) t
     unfolding marked
     paged-marked on = simp (h, on)
 
@@ -157,7 +162,7 @@ memory-within words Read p h = h
 memory-within words Write p h = h
 memory-within words Indirect p h = h
 
-tables-within : (words : ℕ) (k : AccessKind) (i : ℕ) → i < tableWords → Within words (inTables k i)
+pub tables-within : (words : ℕ) (k : AccessKind) (i : ℕ) → i < tableWords → Within words (inTables k i)
 tables-within words Fetch i h = h
 tables-within words Read i h = h
 tables-within words Write i h = h
@@ -175,11 +180,17 @@ judged-inside e slot words ring k a =
     (either (Within words) (not (needed e k)) tt
     (either (Within words) (not (ringAllows e ring)) tt (physical-within words k (physical e a))))
 
+-- a place of the window, in either mode
+pub window-inside : (form : Bool) (a : ℕ) → a % windowWords form < tableWords
+window-inside true a = omega arith
+window-inside false a = omega arith
+
 pub translate-within : (t : List ℕ) (words : ℕ) (r : Rights) (x : Access) → Within words (translate t words r x)
 unfolding translate
 translate-within t words r x =
-    either (Within words) (inWindow r (x .address)) (tables-within words (x .kind) (x .address % 256) (omega arith))
+    either (Within words) (inWindow r (x .address))
+    (tables-within words (x .kind) (x .address % windowWords (r .extended)) (window-inside (r .extended) (x .address)))
     (either (Within words) (r .paging)
-    (judged-inside (entryAt t (slotOf (tableOf r (x .alternate)) (x .address)))
+    (judged-inside (entryAt (r .extended) t (slotOf (tableOf r (x .alternate)) (x .address)))
     (slotOf (tableOf r (x .alternate)) (x .address)) words (r .ring) (x .kind) (x .address))
     (physical-within words (x .kind) (x .address)))

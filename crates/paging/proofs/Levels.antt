@@ -24,9 +24,9 @@ low-normal p ring h = omega arith
 low-alternate : (p ring : ℕ) → ring < 4 → alternateTableOf (loweredPcr p ring) ≡ alternateTableOf p
 low-alternate p ring h = omega arith
 
-pub ring-rights : (p ring paging : ℕ) → ring < 4
-    → levelRights (loweredPcr p ring) paging ≡ onRing (levelRights p paging) ring
-ring-rights p ring paging h = simp (low-ring p ring h, low-normal p ring h, low-alternate p ring h)
+pub ring-rights : (p ring paging extended : ℕ) → ring < 4
+    → levelRights (loweredPcr p ring) paging extended ≡ onRing (levelRights p paging extended) ring
+ring-rights p ring paging extended h = simp (low-ring p ring h, low-normal p ring h, low-alternate p ring h)
 
 -- the PCR with its own ring, and with one ring after another
 pub same-ring : (p : ℕ) → loweredPcr p (ringOf p) ≡ p

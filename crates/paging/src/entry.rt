@@ -1,14 +1,42 @@
 // A page table's entry: where it stands, its permits, its marks, and the status that names it.
 ghost use mathlib.Core.Path.{_≡_};
-ghost use Prim.Native.Nat.{_<_};
-ghost use Rattle.isa.specs.Machine.{tableWords};
-ghost use Rattle.isa.specs.Pages.{entryOf, needed, somePermit, pagingStatus, markOf, slotOf, tableOf};
+ghost use Prim.Native.Nat.{ℕ, _<_};
+ghost use lib.ListN.{length, getD};
+ghost use Rattle.isa.specs.Machine.{tableWords, slotCount};
+ghost use Rattle.isa.specs.Pages.{entryOf, entryAt, firstWord, needed, somePermit, pagingStatus, markOf, slotOf};
+ghost use Rattle.isa.specs.Pages.{tableOf};
 use isa::access::AccessKind;
 use isa::access::Rights;
 
-// Whether the entry has the permit that the kind needs.
+// Where the first word of the entry at a slot stands: permits, marks and ring.
+pub fn first_word(extended: bool, slot: u16) -> usize
+    requires { ⌜ slot < slotCount ⌝ }
+    ensures { λ i. ⌜ i ≡ firstWord extended slot ⌝ }
+    ensures { λ i. ⌜ i < tableWords ⌝ }
+{
+    if extended {
+        return slot as usize * 2;
+    }
+    slot as usize
+}
+
+// The page of the entry at a slot, whose first word is e.
+pub fn page_of(extended: bool, tables: &[u16], slot: u16, e: u16) -> usize
+    requires { ⌜ slot < slotCount ⌝ }
+    requires { ⌜ length (now tables) ≡ tableWords ⌝ }
+    requires { ⌜ e ≡ getD (now tables) (firstWord extended slot) 0 ⌝ }
+    ensures { λ n. ⌜ n ≡ entryAt extended (now (tables .entry)) slot .page ⌝ }
+    ensures { λ n. ⌜ n < 16384 ⌝ }
+{
+    if extended {
+        return (tables[slot as usize * 2 + 1] % 16384) as usize;
+    }
+    (e % 512) as usize
+}
+
+// Whether the entry with the first word e has the permit that the kind needs, whatever its page.
 pub fn permitted(e: u16, k: AccessKind) -> bool
-    ensures { λ b. ⌜ b ≡ needed (entryOf e) k ⌝ }
+    ensures { λ b. ⌜ ((page : ℕ) → b ≡ needed (entryOf e page) k) ⌝ }
 {
     match k {
         AccessKind::Fetch => e / 8192 % 2 == 1,
@@ -18,9 +46,9 @@ pub fn permitted(e: u16, k: AccessKind) -> bool
     }
 }
 
-// Whether the entry has any permit.
+// Whether it has any permit.
 pub fn some_permit(e: u16) -> bool
-    ensures { λ b. ⌜ b ≡ somePermit (entryOf e) ⌝ }
+    ensures { λ b. ⌜ ((page : ℕ) → b ≡ somePermit (entryOf e page)) ⌝ }
 {
     e / 8192 != 0
 }
@@ -28,7 +56,7 @@ pub fn some_permit(e: u16) -> bool
 // PGS after a failed access by the entry at the slot.
 pub fn status(k: AccessKind, missing: u16, slot: u16) -> u16
     requires { ⌜ missing < 16385 ⌝ }
-    requires { ⌜ slot < tableWords ⌝ }
+    requires { ⌜ slot < slotCount ⌝ }
     ensures { λ n. ⌜ n ≡ pagingStatus k missing slot ⌝ }
 {
     match k {
@@ -39,7 +67,7 @@ pub fn status(k: AccessKind, missing: u16, slot: u16) -> u16
     }
 }
 
-// The entry with the marks of a passed access.
+// Its first word with the marks of a passed access.
 pub fn mark(k: AccessKind, e: u16) -> u16
     ensures { λ n. ⌜ n ≡ markOf k e ⌝ }
 {
@@ -51,11 +79,11 @@ pub fn mark(k: AccessKind, e: u16) -> u16
     }
 }
 
-// The place in the tables of the entry that an access goes by.
+// The slot of the entry that an access goes by.
 pub fn slot_of(r: Rights, alternate: bool, a: u16) -> u16
     requires { ⌜ (r .normal < 4) × (r .alternate < 4) ⌝ }
     ensures { λ i. ⌜ i ≡ slotOf (tableOf r alternate) a ⌝ }
-    ensures { λ i. ⌜ i < tableWords ⌝ }
+    ensures { λ i. ⌜ i < slotCount ⌝ }
 {
     if alternate {
         return r.alternate * 64 + a / 1024 % 64;

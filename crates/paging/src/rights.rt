@@ -8,13 +8,14 @@ ghost use Rattle.isa.specs.Pages.{rightsBy};
 ghost use Rattle.paging.specs.Levels.{levelRights, byFlags, onRing, privilegedBy};
 use isa::access::Rights;
 
-// By PCR and the control word for paging, with PTM 1.
-pub fn level_rights(p: u16, paging: u16) -> Rights
-    ensures { λ r. ⌜ r ≡ levelRights p paging ⌝ }
+// By PCR and the control words for paging and extended mode, with PTM 1.
+pub fn level_rights(p: u16, paging: u16, extended: u16) -> Rights
+    ensures { λ r. ⌜ r ≡ levelRights p paging extended ⌝ }
     ensures { λ r. ⌜ (r .normal < 4) × (r .alternate < 4) ⌝ }
 {
     Rights {
         paging: paging == 1,
+        extended: extended == 1,
         ring: (p % 4) as u32,
         normal: p / 512 % 4,
         alternate: p / 128 % 4,
@@ -36,6 +37,7 @@ pub fn by_flags(r: Rights, sts: u16) -> Rights
 {
     Rights {
         paging: r.paging,
+        extended: r.extended,
         ring: r.ring,
         normal: r.normal,
         alternate: alternate_of(r, sts),
@@ -48,18 +50,19 @@ pub fn on_ring(r: Rights, ring: u32) -> Rights
 {
     Rights {
         paging: r.paging,
+        extended: r.extended,
         ring: ring,
         normal: r.normal,
         alternate: r.alternate,
     }
 }
 
-// By STS, PCR and the control word for paging.
-pub fn rights(sts: u16, p: u16, paging: u16) -> Rights
-    ensures { λ r. ⌜ r ≡ rightsBy sts p paging ⌝ }
+// By STS, PCR and the control words for paging and extended mode.
+pub fn rights(sts: u16, p: u16, paging: u16, extended: u16) -> Rights
+    ensures { λ r. ⌜ r ≡ rightsBy sts p paging extended ⌝ }
     ensures { λ r. ⌜ (r .normal < 4) × (r .alternate < 4) ⌝ }
 {
-    by_flags(level_rights(p, paging), sts)
+    by_flags(level_rights(p, paging, extended), sts)
 }
 
 // Whether privileged instructions may be executed: with paging on, on rings 2 and 3.

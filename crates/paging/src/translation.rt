@@ -1,14 +1,17 @@
 // Translation: the page-table window, the tests in order, the mark.
-ghost use Rattle.isa.specs.Machine.{tableWords};
+ghost use Rattle.isa.specs.Machine.{tableWords, slotCount};
 ghost use mathlib.Core.Path.{_≡_};
 ghost use mathlib.Core.Bool.{cond, not};
-ghost use Prim.Native.Nat.{_<_};
-ghost use lib.ListN.{length, set, getD};
+ghost use Prim.Native.Nat.{_%_, _<_};
+ghost use lib.ListN.{length};
 ghost use Rattle.isa.specs.Address.{access};
 ghost use Rattle.isa.specs.Pages.{entryOf, entryAt, slotOf, somePermit, pagingStatus, inMemory, inTables};
-ghost use Rattle.isa.specs.Pages.{withinMemory, judged, inWindow, passes, markOf, marked, translate as translated};
+ghost use Rattle.isa.specs.Pages.{withinMemory, judged, windowStart, windowWords, inWindow, passes, withMark};
+ghost use Rattle.isa.specs.Pages.{marked, translate as translated};
 ghost use Rattle.isa.specs.declared.access.Translation.the-variants.{PageFault, Protection};
+use crate::entry::first_word;
 use crate::entry::mark;
+use crate::entry::page_of;
 use crate::entry::permitted;
 use crate::entry::slot_of;
 use crate::entry::some_permit;
@@ -16,12 +19,11 @@ use crate::entry::status;
 use isa::access::AccessKind;
 use isa::access::Rights;
 use isa::access::Translation;
+use isa::constant::EXTENDED_WINDOW_START;
+use isa::constant::EXTENDED_WINDOW_WORDS;
 use isa::constant::PAGE_WORDS;
-use isa::constant::TABLE_WORDS;
 use isa::constant::WINDOW_START;
-
-// The words of the window: all page tables.
-const WINDOW_WORDS: u16 = TABLE_WORDS as u16;
+use isa::constant::WINDOW_WORDS;
 
 fn in_memory(k: AccessKind, p: usize) -> Translation
     ensures { λ x. ⌜ x ≡ inMemory k p ⌝ }
@@ -34,7 +36,7 @@ fn in_memory(k: AccessKind, p: usize) -> Translation
     }
 }
 
-fn in_tables(k: AccessKind, i: usize) -> Translation
+pub(crate) fn in_tables(k: AccessKind, i: usize) -> Translation
     ensures { λ x. ⌜ x ≡ inTables k i ⌝ }
 {
     match k {
@@ -47,8 +49,8 @@ fn in_tables(k: AccessKind, i: usize) -> Translation
 
 // The needed permit is missing: no permit at all is a page fault.
 fn refused(e: u16, k: AccessKind, slot: u16) -> Translation
-    requires { ⌜ slot < tableWords ⌝ }
-    ensures { λ x. ⌜ x ≡ cond (not (somePermit (entryOf e))) (PageFault (pagingStatus k 16384 slot))
+    requires { ⌜ slot < slotCount ⌝ }
+    ensures { λ x. ⌜ x ≡ cond (not (somePermit (entryOf e 0))) (PageFault (pagingStatus k 16384 slot))
         (Protection (pagingStatus k 16384 slot)) ⌝ }
 {
     if some_permit(e) {
@@ -62,23 +64,23 @@ fn refused(e: u16, k: AccessKind, slot: u16) -> Translation
 fn looked_up(
     tables: &mut [u16],
     words: usize,
+    extended: bool,
     ring: u32,
     k: AccessKind,
     slot: u16,
     a: u16,
 ) -> Translation
-    requires { ⌜ slot < tableWords ⌝ }
+    requires { ⌜ slot < slotCount ⌝ }
     requires { ⌜ length (now tables) ≡ tableWords ⌝ }
-    ensures { λ x. ⌜ x ≡ judged (entryAt (now (tables .entry)) slot) slot words ring k a ⌝ }
+    ensures { λ x. ⌜ x ≡ judged (entryAt extended (now (tables .entry)) slot) slot words ring k a ⌝ }
     ensures { λ x. ⌜ now (tables .exit)
-        ≡ cond (passes x) (set (now (tables .entry)) slot (markOf k (getD (now (tables .entry)) slot 0)))
-        (now (tables .entry)) ⌝ }
+        ≡ cond (passes x) (withMark extended (now (tables .entry)) slot k) (now (tables .entry)) ⌝ }
 {
-    let i = slot as usize;
+    let i = first_word(extended, slot);
     let e = tables[i];
     if permitted(e, k) {
         if (e / 512 % 4) as u32 <= ring {
-            let p = (e % 512) as usize * PAGE_WORDS + (a % 1024) as usize;
+            let p = page_of(extended, tables, slot, e) * PAGE_WORDS + (a % 1024) as usize;
             if p < words {
                 tables[i] = mark(k, e);
                 return in_memory(k, p);
@@ -90,10 +92,30 @@ fn looked_up(
     refused(e, k, slot)
 }
 
+// The window's first address, by the mode.
+pub(crate) fn window_start(extended: bool) -> u16
+    ensures { λ a. ⌜ a ≡ windowStart extended ⌝ }
+{
+    if extended {
+        return EXTENDED_WINDOW_START;
+    }
+    WINDOW_START
+}
+
+// The place in the tables of an address from there on.
+pub(crate) fn window_place(extended: bool, a: usize) -> usize
+    ensures { λ i. ⌜ i ≡ a % windowWords extended ⌝ }
+{
+    if extended {
+        return a % EXTENDED_WINDOW_WORDS;
+    }
+    a % WINDOW_WORDS
+}
+
 fn in_window(r: Rights, a: u16) -> bool
     ensures { λ b. ⌜ b ≡ inWindow r a ⌝ }
 {
-    if WINDOW_START <= a {
+    if window_start(r.extended) <= a {
         if r.paging {
             return r.ring == 3;
         }
@@ -127,10 +149,11 @@ pub fn translate(
     ensures { λ x. ⌜ now (tables .exit) ≡ marked (now (tables .entry)) words r (access k alternate a) ⌝ }
 {
     if in_window(r, a) {
-        return in_tables(k, (a % WINDOW_WORDS) as usize);
+        return in_tables(k, window_place(r.extended, a as usize));
     }
     if r.paging {
-        return looked_up(tables, words, r.ring, k, slot_of(r, alternate, a), a);
+        let slot = slot_of(r, alternate, a);
+        return looked_up(tables, words, r.extended, r.ring, k, slot, a);
     }
     physical(words, k, a as usize)
 }
@@ -139,9 +162,9 @@ pub fn translate(
 pub fn ring_at(tables: &[u16], r: Rights, a: u16) -> u16
     requires { ⌜ (r .normal < 4) × (r .alternate < 4) ⌝ }
     requires { ⌜ length (now tables) ≡ tableWords ⌝ }
-    ensures { λ n. ⌜ n ≡ entryAt (now (tables .entry)) (slotOf (r .normal) a) .ring ⌝ }
+    ensures { λ n. ⌜ n ≡ entryAt (r .extended) (now (tables .entry)) (slotOf (r .normal) a) .ring ⌝ }
 {
-    let i = slot_of(r, false, a) as usize;
+    let i = first_word(r.extended, slot_of(r, false, a));
     let e = tables[i];
     e / 512 % 4
 }

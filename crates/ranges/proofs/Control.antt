@@ -13,7 +13,7 @@ use Rattle.isa.specs.Machine.{bit, withBit, reg, withFile, withControl, nextCor
 use Rattle.isa.specs.Flags.{complement}
 use Rattle.isa.specs.System.{highestIn, withSwitches, withLevels, withInternal, withPid, withPie, waited}
 use Rattle.isa.specs.System.{internalWord, afterReading, read, withSts, written, bitsCleared, bitsSet, switched}
-use Rattle.isa.specs.System.{withPagingStatus, controlled}
+use Rattle.isa.specs.System.{withPagingStatus, withExtended, controlled}
 use Rattle.isa.specs.Pages.{loweredPcr, lowered}
 use Rattle.isa.specs.Step.{detected, interrupted, gives}
 use Rattle.isa.specs.declared.machine.Control.{Control}
@@ -28,8 +28,8 @@ use Rattle.isa.specs.declared.instruction.Writable.the-variants.{Pie as ToPie}
 use Rattle.isa.specs.declared.instruction.Maskable.{Maskable}
 use Rattle.isa.specs.declared.instruction.Maskable.the-variants.{Status as InStatus, Pid as InPid, Pie as InPie}
 use Rattle.isa.specs.declared.instruction.ControlOp.{ControlOp}
-use Rattle.isa.specs.declared.instruction.ControlOp.the-variants.{Ion, Iof, Pon, Pof, Pion, Piof, Wait, Tra, Trr, Mcl}
-use Rattle.isa.specs.declared.instruction.ControlOp.the-variants.{Mst}
+use Rattle.isa.specs.declared.instruction.ControlOp.the-variants.{Ion, Iof, Pon, Pof, Pion, Piof, Sex, Rex, Wait, Tra}
+use Rattle.isa.specs.declared.instruction.ControlOp.the-variants.{Trr, Mcl, Mst}
 use Rattle.isa.proofs.Tests.{either, decided}
 use Rattle.isa.proofs.Bits.{bit-below, bit-even}
 use Rattle.ranges.proofs.Files.{FileFits, reg-word, sts-flags, with-word, with-sts, next-fits}
@@ -51,7 +51,7 @@ pub record PgsFits (w : ℕ) : Type 0 where
   pub clear : w / 256 % 64 ≡ 0
   pub word : w < 65536
 
--- the control words 1 to 9 and 26
+-- the control words 1 to 9, 26 and 27
 pub record ControlFits (k : Control) : Type 0 where
   pub interrupts : k .interrupts < 2
   pub paging : k .paging < 2
@@ -63,6 +63,7 @@ pub record ControlFits (k : Control) : Type 0 where
   pub iie : InterruptFits (k .iie)
   pub pgs : PgsFits (k .pgs)
   pub held : k .held < 2
+  pub extended : k .extended < 2
 
 -- what an instruction of the running level works on
 pub record CoreFits (c : Core) : Type 0 where
@@ -85,6 +86,7 @@ switches-fit q i p h a b c = record {
   iie = q .iie;
   pgs = q .pgs;
   held = q .held;
+  extended = q .extended;
 }
 
 -- PID, PIE and PVL
@@ -101,6 +103,7 @@ levels-fit q d e v a b c = record {
   iie = q .iie;
   pgs = q .pgs;
   held = q .held;
+  extended = q .extended;
 }
 
 -- IID and IIE
@@ -117,6 +120,7 @@ internal-fit q a b = record {
   iie = b;
   pgs = q .pgs;
   held = q .held;
+  extended = q .extended;
 }
 
 -- PGS, and whether it is held
@@ -132,6 +136,23 @@ status-fit q a b = record {
   iie = q .iie;
   pgs = a;
   held = b;
+  extended = q .extended;
+}
+
+-- the extended flag
+extended-fit : {k : Control} → ControlFits k → {x : ℕ} → x < 2 → ControlFits (withExtended k x)
+extended-fit q a = record {
+  interrupts = q .interrupts;
+  paging = q .paging;
+  stopped = q .stopped;
+  pid = q .pid;
+  pie = q .pie;
+  pvl = q .pvl;
+  iid = q .iid;
+  iie = q .iie;
+  pgs = q .pgs;
+  held = q .held;
+  extended = a;
 }
 
 -- PID alone, PIE alone
@@ -192,7 +213,7 @@ interrupt-mask-fits w = record { even = omega arith; low = omega arith }
 pub pcr-mask-fits : (w : ℕ) → PcrFits (pcrMask w)
 pcr-mask-fits w = record { clear = omega arith; low = omega arith }
 
--- ---- ION to MST
+-- ---- ION to MST, SEX and REX
 
 -- the highest bit among bits n to 1
 pub highest-below : (n w : ℕ) → highestIn n w < suc n
@@ -278,6 +299,8 @@ controlled-fits l {c} h q Pon = switched-fits q (c .control .interrupts) 1 (q .c
 controlled-fits l {c} h q Pof = switched-fits q (c .control .interrupts) 0 (q .control .interrupts) (omega arith)
 controlled-fits l h q Pion = switched-fits q 1 1 (omega arith) (omega arith)
 controlled-fits l h q Piof = switched-fits q 0 0 (omega arith) (omega arith)
+controlled-fits l h q Sex = control-fits q (extended-fit (q .control) (omega arith))
+controlled-fits l h q Rex = control-fits q (extended-fit (q .control) (omega arith))
 controlled-fits l h q Wait = control-fits q (waited-fits l h (q .control))
 controlled-fits l h q (Tra r) = read-fits l h q r
 controlled-fits l h q (Trr r) = written-fits q r

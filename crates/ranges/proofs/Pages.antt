@@ -3,16 +3,17 @@
 use Prim.Native.Nat.{ℕ, _*_, _%_, _<_}
 use native.Mathlib.Omega.{arith}
 use mathlib.Core.Path.{_≡_}
-use mathlib.Core.Bool.{Bool, false, not}
+use mathlib.Core.Bool.{Bool, false, not, _&&_}
 use mathlib.Core.List.{List, [], _∷_}
 use lib.ListN.{drop, getD, set}
-use lib.Dec.{eqb, ltb}
+use lib.Dec.{eqb, ltb, leb}
 use borrow.Author.Tests.{eqb-false}
-use Rattle.isa.specs.Machine.{Words, flag, flagPTM}
+use Rattle.isa.specs.Machine.{wordRange, Words, flag, flagPTM}
 use Rattle.isa.specs.Pages.{Entry, entryAt, slotOf, somePermit, needed, ringAllows, physical, pagingStatus, inMemory}
 use Rattle.isa.specs.Pages.{inTables, withinMemory, judged, tableOf, inWindow, translate, faultOf, pgsAfter, passes}
 use Rattle.isa.specs.Pages.{firstStatus, heldAfter, markOf, marked, Tested, testAll, wordAt, wordsAt, Lent, storeAll}
-use Rattle.isa.specs.Pages.{rightsOf}
+use Rattle.isa.specs.Pages.{firstWord, windowStart, windowWords, rightsOf}
+use Rattle.isa.specs.Physical.{physicalPlace}
 use Rattle.isa.specs.Step.{faulted}
 use Rattle.isa.specs.declared.machine.Core.{Core}
 use Rattle.isa.specs.declared.access.Access.{Access}
@@ -22,7 +23,7 @@ use Rattle.isa.specs.declared.access.Rights.{Rights}
 use Rattle.isa.specs.declared.access.Translation.{Translation}
 use Rattle.isa.specs.declared.access.Translation.the-variants.{NoAccess, Load, Store, LoadTable, StoreTable}
 use Rattle.isa.specs.declared.access.Translation.the-variants.{Protection, PageFault, OutOfRange}
-use Rattle.isa.proofs.Tables.{marked-keeps, tested-keeps}
+use Rattle.isa.proofs.Tables.{Lasting, marked-keeps, tested-keeps}
 use Rattle.isa.proofs.Tests.{either}
 use Rattle.ranges.proofs.Places.{Each, set-words, nil-words, cons-words, drop-each}
 use Rattle.ranges.proofs.Control.{PgsFits, CoreFits, status-fit, control-fits, gives-fits}
@@ -100,9 +101,17 @@ translated-fits t words {r} h x =
     let i : ℕ = slotOf (tableOf r (x .alternate)) (x .address) in
     let n : tableOf r (x .alternate) < 4 = table-below h (x .alternate) in
     let l : i < 256 = omega arith in
-    either FaultFits (inWindow r (x .address)) (in-tables-fits (x .kind) (x .address % 256))
-    (either FaultFits (r .paging) (judged-fits (entryAt t i) i words (r .ring) (x .kind) (x .address) l)
+    let e : Entry = entryAt (r .extended) t i in
+    either FaultFits (inWindow r (x .address)) (in-tables-fits (x .kind) (x .address % windowWords (r .extended)))
+    (either FaultFits (r .paging) (judged-fits e i words (r .ring) (x .kind) (x .address) l)
     (within-fits words (x .kind) (x .address)))
+
+-- .. and one by a physical address
+pub physical-fits : (form : Bool) (words : ℕ) (k : AccessKind) (p : ℕ) → FaultFits (physicalPlace form words k p)
+unfolding physicalPlace
+physical-fits form words k p =
+    either FaultFits (leb (windowStart form) p && ltb p wordRange) (in-tables-fits k (p % windowWords form))
+    (within-fits words k p)
 
 -- PGS after an access
 after-fits : {g : ℕ} → PgsFits g → (x : Translation) → FaultFits x → PgsFits (pgsAfter g x)
@@ -169,8 +178,10 @@ mark-word Write e h = omega arith
 mark-word Indirect e h = omega arith
 
 -- .. so marked tables are words
-mark-words : (t : List ℕ) (i : ℕ) (k : AccessKind) → Words t → Words (set t i (markOf k (getD t i 0)))
-mark-words t i k h = set-words t i (markOf k (getD t i 0)) h (mark-word k (getD t i 0) (h i))
+mark-words : (form : Bool) → Lasting form Words
+mark-words form t i k h =
+    let j : ℕ = firstWord form i in
+    set-words t j (markOf k (getD t j 0)) h (mark-word k (getD t j 0) (h j))
 
 -- ---- stores
 
@@ -207,13 +218,13 @@ pub record LentFits (m t : List ℕ) : Type 0 where
 -- .. after a mark
 pub marked-fits : (m t : List ℕ) (words : ℕ) (r : Rights) (x : Access) → LentFits m t → LentFits m (marked t words r x)
 marked-fits m t words r x h =
-    record { memory = h .memory; tables = marked-keeps Words mark-words t words r x (h .tables) }
+    record { memory = h .memory; tables = marked-keeps Words r (mark-words (r .extended)) t words x (h .tables) }
 
 -- .. after the tests of an instruction's accesses
 pub tested-fits : (xs : List Access) (m t : List ℕ) (words : ℕ) (r : Rights) → LentFits m t
     → LentFits m (testAll t words r xs .tables)
 tested-fits xs m t words r h =
-    record { memory = h .memory; tables = tested-keeps Words mark-words xs t words r (h .tables) }
+    record { memory = h .memory; tables = tested-keeps Words r (mark-words (r .extended)) xs t words (h .tables) }
 
 -- .. after its stores
 pub stored-fits : (xs : List Translation) (m t ws : List ℕ) → LentFits m t → Words ws
@@ -223,7 +234,7 @@ stored-fits xs m t ws h w =
     record { memory = r .memory; tables = r .tables }
 
 -- the word read at a place is a word
-word-at-word : {m t : List ℕ} → LentFits m t → (x : Translation) → wordAt m t x < 65536
+pub word-at-word : {m t : List ℕ} → LentFits m t → (x : Translation) → wordAt m t x < 65536
 word-at-word h NoAccess = omega arith
 word-at-word h (Load p) = h .memory p
 word-at-word h (Store p) = omega arith

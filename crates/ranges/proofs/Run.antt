@@ -54,7 +54,7 @@ step-sound s m t h =
       range = state-range (step s m t .state) (r .state);
       memory = r .lent .memory;
       tables = r .lent .tables;
-      size = step-sized (length m) 256 s m t (record { memory = refl; tables = h .size }) .tables;
+      size = step-sized (length m) tableWords s m t (record { memory = refl; tables = h .size }) .tables;
     }
 
 -- a step keeps the sizes of memory and tables, in every state

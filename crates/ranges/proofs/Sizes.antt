@@ -2,23 +2,27 @@
 -- Assumes nothing.
 use Prim.Native.Nat.{ℕ}
 use mathlib.Core.Path.{_≡_, _∙_}
-use mathlib.Core.List.{List}
+use mathlib.Core.Bool.{Bool}
+use mathlib.Core.List.{List, [], _∷_}
 use lib.ListN.{getD, set, length, length-set}
-use lib.Dec.{ltb}
+use lib.Dec.{ltb, eqb}
 use Rattle.isa.specs.Machine.{nextCore, reg, coreOf, withCore}
 use Rattle.isa.specs.Instructions.{indirectRequest, request, complete, Completed}
-use Rattle.isa.specs.Pages.{translate, marked, testAll, Tested, passes, wordAt, wordsAt, storeAll, rightsOf, markOf}
+use Rattle.isa.specs.Pages.{translate, marked, testAll, Tested, passes, wordAt, wordsAt, wordsOf, storeAll, rightsOf}
+use Rattle.isa.specs.Pages.{firstWord, markOf}
+use Rattle.isa.specs.Physical.{transferAddress, transferStores, firstPlace, secondPlace, firstFault}
 use Rattle.isa.specs.Step.{Part, Turn, finished, operandsTested, operands, indirectTested, userStage, physicalAddress}
-use Rattle.isa.specs.Step.{examined, deposited, systemStage, privileged, instructionStage, instructionOf, afterFetch}
-use Rattle.isa.specs.Step.{fetched, fetchOf, stepIn, blockOrder, blockRequest, blockWords, blockStored, blockLoaded}
-use Rattle.isa.specs.Step.{blockTested, farStage, settled, isStopped, changeDue, step}
+use Rattle.isa.specs.Step.{examined, deposited, transferStage, systemStage, privileged, instructionStage}
+use Rattle.isa.specs.Step.{instructionOf, afterFetch, fetched, fetchOf, stepIn, blockOrder, blockRequest, blockWords}
+use Rattle.isa.specs.Step.{blockStored, blockLoaded, blockTested, farStage, settled, isStopped, changeDue, step}
 use Rattle.isa.specs.declared.machine.Core.{Core}
 use Rattle.isa.specs.declared.machine.State.{State}
 use Rattle.isa.specs.declared.machine.Register.the-variants.{T}
 use Rattle.isa.specs.declared.instruction.User.{User}
 use Rattle.isa.specs.declared.instruction.System.{System}
 use Rattle.isa.specs.declared.instruction.System.the-variants.{Control as ControlOf, TraPgc, TrrPcr, Irr, Irw, Srb}
-use Rattle.isa.specs.declared.instruction.System.the-variants.{Lrb, Exam, Depo, Iox, Ioxt, Ident}
+use Rattle.isa.specs.declared.instruction.System.the-variants.{Lrb, Exam, Depo, Physical, Iox, Ioxt, Ident}
+use Rattle.isa.specs.declared.instruction.Transfer.{Transfer}
 use Rattle.isa.specs.declared.instruction.Instruction.{Instruction}
 use Rattle.isa.specs.declared.instruction.Instruction.the-variants.{Unprivileged, Privileged, Execute, Monitor, Illegal}
 use Rattle.isa.specs.declared.access.Access.{Access}
@@ -31,7 +35,7 @@ use Rattle.isa.specs.declared.answer.Far.the-variants.{Nothing, Call, ReadRegis
 use Rattle.isa.specs.declared.answer.Far.the-variants.{StoreBlock, LoadBlock}
 use Rattle.ranges.specs.Sound.{Sized}
 use Rattle.isa.proofs.Tests.{either}
-use Rattle.isa.proofs.Tables.{marked-keeps, tested-keeps}
+use Rattle.isa.proofs.Tables.{Lasting, marked-keeps, tested-keeps}
 use Rattle.ranges.proofs.Pages.{stored-keeps}
 
 -- a list of n words
@@ -43,8 +47,8 @@ set-long : (n : ℕ) (l : List ℕ) (i v : ℕ) → Long n l → Unit {0} → Lo
 set-long n l i v h u = length-set l i v ∙ h
 
 -- .. and after a mark
-mark-long : (n : ℕ) (l : List ℕ) (i : ℕ) (x : AccessKind) → Long n l → Long n (set l i (markOf x (getD l i 0)))
-mark-long n l i x h = set-long n l i (markOf x (getD l i 0)) h tt
+mark-long : (form : Bool) (n : ℕ) → Lasting form (Long n)
+mark-long form n l i x h = let j : ℕ = firstWord form i in set-long n l j (markOf x (getD l j 0)) h tt
 
 -- memory of j words and tables of k
 module _ (j k : ℕ) where
@@ -60,13 +64,13 @@ module _ (j k : ℕ) where
   -- a mark
   marked-size : (m t : List ℕ) (words : ℕ) (r : Rights) (x : Access) → Sized j k m t → Sized j k m (marked t words r x)
   marked-size m t words r x h =
-      record { memory = h .memory; tables = marked-keeps (Long k) (mark-long k) t words r x (h .tables) }
+      record { memory = h .memory; tables = marked-keeps (Long k) r (mark-long (r .extended) k) t words x (h .tables) }
 
   -- the tests of an instruction's accesses
   tested-size : (xs : List Access) (m t : List ℕ) (words : ℕ) (r : Rights) → Sized j k m t
       → Sized j k m (testAll t words r xs .tables)
   tested-size xs m t words r h =
-      record { memory = h .memory; tables = tested-keeps (Long k) (mark-long k) xs t words r (h .tables) }
+      record { memory = h .memory; tables = tested-keeps (Long k) r (mark-long (r .extended) k) xs t words (h .tables) }
 
   -- its stores
   stored-size : (xs : List Translation) (m t ws : List ℕ) → Sized j k m t
@@ -114,6 +118,18 @@ module _ (j k : ℕ) where
       let xs = indirectRequest u (c .file) in
       indirect-tested-size c m u (testAll t (length m) (rightsOf c) xs) (tested-size xs m t (length m) (rightsOf c) h)
 
+  -- LDATX to STDTX
+  transfer-size : (c : Core) (m t : List ℕ) (o : Transfer) (d : ℕ) → Sized j k m t
+      → PartSized (transferStage c m t o d)
+  unfolding transferStage
+  transfer-size c m t o d h =
+      let form : Bool = eqb (c .control .extended) 1 in
+      let p : ℕ = transferAddress (c .file) d in
+      let x : Translation = firstPlace form (length m) o p in
+      let y : Translation = secondPlace form (length m) o p in
+      either PartSized (passes (firstFault x y))
+      (stored-size (x ∷ y ∷ []) m t (wordsOf (transferStores o (c .file))) h) h
+
   -- a privileged instruction
   system-size : (l : ℕ) (c : Core) (m t : List ℕ) (o : System) → Sized j k m t → PartSized (systemStage l c m t o)
   unfolding examined deposited
@@ -131,6 +147,7 @@ module _ (j k : ℕ) where
         memory = set-long j m (physicalAddress (c .file)) (reg (c .file) T) (h .memory) tt;
         tables = h .tables;
       }) h
+  system-size l c m t (Physical o d) h = transfer-size c m t o d h
   system-size l c m t (Iox n) h = h
   system-size l c m t Ioxt h = h
   system-size l c m t (Ident n) h = h

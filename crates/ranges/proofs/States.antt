@@ -74,16 +74,17 @@ regs-each b n w h i = record { word = w i; flags = λ e. go e (decLt i 128) }
 control-range : (k : Control) → controlInRange k ≡ true → k .pid < 65536 → k .pie < 65536 → k .pgs < 65536
     → ControlFits k
 control-range k h d e g = record {
-  interrupts = ltb-true (k .interrupts) 2 (search (and-left, and-right));
-  paging = ltb-true (k .paging) 2 (search (and-left, and-right));
-  stopped = ltb-true (k .stopped) 2 (search (and-left, and-right));
+  interrupts = ltb-true (k .interrupts) 2 (search (and-left, and-right) depth 7);
+  paging = ltb-true (k .paging) 2 (search (and-left, and-right) depth 7);
+  stopped = ltb-true (k .stopped) 2 (search (and-left, and-right) depth 7);
   pid = d;
   pie = e;
-  pvl = ltb-true (k .pvl) 16 (search (and-left, and-right));
-  iid = interrupt-bits (k .iid) (search (and-left, and-right));
-  iie = interrupt-bits (k .iie) (search (and-left, and-right));
-  pgs = record { clear = eqb-true (k .pgs / 256 % 64) 0 (search (and-left, and-right)); word = g };
-  held = ltb-true (k .held) 2 (search (and-left, and-right));
+  pvl = ltb-true (k .pvl) 16 (search (and-left, and-right) depth 7);
+  iid = interrupt-bits (k .iid) (search (and-left, and-right) depth 7);
+  iie = interrupt-bits (k .iie) (search (and-left, and-right) depth 7);
+  pgs = record { clear = eqb-true (k .pgs / 256 % 64) 0 (search (and-left, and-right) depth 7); word = g };
+  held = ltb-true (k .held) 2 (search (and-left, and-right) depth 7);
+  extended = ltb-true (k .extended) 2 (search (and-left, and-right) depth 7);
 }
 
 -- four tests that all pass; the last is long to compute
@@ -136,12 +137,14 @@ control-test k h =
     (and-both
     (and-both
     (and-both
+    (and-both
     (and-both (and-both (lt-ltb (k .interrupts) 2 (h .interrupts)) (lt-ltb (k .paging) 2 (h .paging)))
     (lt-ltb (k .stopped) 2 (h .stopped)))
     (lt-ltb (k .pvl) 16 (h .pvl)))
     (interrupt-test (k .iid) (h .iid)))
     (interrupt-test (k .iie) (h .iie)))
-    (and-both (eq-eqb (k .pgs / 256 % 64) 0 (h .pgs .clear)) (lt-ltb (k .held) 2 (h .held)))
+    (and-both (eq-eqb (k .pgs / 256 % 64) 0 (h .pgs .clear)) (lt-ltb (k .held) 2 (h .held))))
+    (lt-ltb (k .extended) 2 (h .extended))
 
 -- four tests together
 all-four : (a b c d : Bool) → a ≡ true → b ≡ true → c ≡ true → d ≡ true → (a && b && c && d) ≡ true
@@ -171,7 +174,7 @@ pcr-row ps h = record { at = λ i. omega (arith, h i .low) }
 
 -- the words behind the PCRs
 added-row : {k : Control} → ControlFits k → Row (addedWords k)
-added-row h = first (h .held) (omega arith) (record { at = nil-words })
+added-row h = first (h .held) (omega arith) (first (h .extended) (omega arith) (record { at = nil-words }))
 
 -- the PCRs, and the words behind them
 last-row : (ps : List ℕ) {k : Control} → Each (λ i. PcrFits) ps → ControlFits k → Row (ps ++ addedWords k)

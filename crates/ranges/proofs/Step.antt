@@ -1,27 +1,32 @@
 -- The stages of a step, and a step, leave all in range.
 -- Assumes nothing.
-use Prim.Native.Nat.{ℕ, _<_}
+use Prim.Native.Nat.{ℕ, _+_, _*_, _%_, _<_}
 use native.Mathlib.Omega.{arith}
 use mathlib.Core.Path.{_≡_, refl}
-use mathlib.Core.Bool.{false}
-use mathlib.Core.List.{List}
+use mathlib.Core.Bool.{Bool, false}
+use mathlib.Core.List.{List, [], _∷_}
 use lib.ListN.{getD, set, length}
 use lib.Dec.{ltb, eqb}
-use lib.Bits.{bitAnd}
-use Rattle.isa.specs.Machine.{levelCount, Words, reg, coreOf}
+use lib.Bits.{bitAnd, or-lt}
+use Rattle.isa.specs.Machine.{wordRange, levelCount, Words, reg, coreOf}
 use Rattle.isa.specs.Instructions.{indirectRequest, request, complete, Completed}
-use Rattle.isa.specs.Pages.{translate, marked, testAll, Tested, passes, wordAt, wordsAt, rightsOf}
+use Rattle.isa.specs.Pages.{translate, marked, testAll, Tested, passes, wordAt, wordsAt, wordsOf, rightsOf}
+use Rattle.isa.specs.Physical.{transferAddress, transferKind, twoWords, triple, transferStores, transferred, firstPlace}
+use Rattle.isa.specs.Physical.{secondPlace, firstFault}
 use Rattle.isa.specs.Step.{Part, part, failed, trapped, finishedCore, finished, operandsTested, operands}
-use Rattle.isa.specs.Step.{indirectTested, userStage, physicalAddress, examined, deposited, systemStage, privileged}
-use Rattle.isa.specs.Step.{instructionStage, instructionOf, afterFetch, fetched, fetchOf, stepIn, settled, isStopped}
-use Rattle.isa.specs.Step.{changeDue, levelChanged, step}
+use Rattle.isa.specs.Step.{indirectTested, userStage, physicalAddress, examined, deposited, transferStage, systemStage}
+use Rattle.isa.specs.Step.{privileged, instructionStage, instructionOf, afterFetch, fetched, fetchOf, stepIn, settled}
+use Rattle.isa.specs.Step.{isStopped, changeDue, levelChanged, step}
 use Rattle.isa.specs.declared.machine.Core.{Core}
+use Rattle.isa.specs.declared.machine.File.{File}
 use Rattle.isa.specs.declared.machine.State.{State}
-use Rattle.isa.specs.declared.machine.Register.the-variants.{T}
+use Rattle.isa.specs.declared.machine.Register.the-variants.{D, B, A, T, X}
 use Rattle.isa.specs.declared.instruction.User.{User}
 use Rattle.isa.specs.declared.instruction.System.{System}
 use Rattle.isa.specs.declared.instruction.System.the-variants.{Control as ControlOf, TraPgc, TrrPcr, Irr, Irw, Srb}
-use Rattle.isa.specs.declared.instruction.System.the-variants.{Lrb, Exam, Depo, Iox, Ioxt, Ident}
+use Rattle.isa.specs.declared.instruction.System.the-variants.{Lrb, Exam, Depo, Physical, Iox, Ioxt, Ident}
+use Rattle.isa.specs.declared.instruction.Transfer.{Transfer}
+use Rattle.isa.specs.declared.instruction.Transfer.the-variants.{Ldatx, Ldxtx, Lddtx, Ldbtx, Statx, Stztx, Stdtx}
 use Rattle.isa.specs.declared.instruction.Instruction.{Instruction}
 use Rattle.isa.specs.declared.instruction.Instruction.the-variants.{Unprivileged, Privileged, Execute, Monitor, Illegal}
 use Rattle.isa.specs.declared.access.Translation.{Translation}
@@ -32,13 +37,13 @@ use Rattle.isa.specs.declared.answer.Far.the-variants.{ReadRegister, WriteRegis
 use Rattle.isa.specs.declared.answer.Far.the-variants.{LoadBlock}
 use Rattle.isa.proofs.Tests.{either, decided}
 use Rattle.isa.proofs.Signed.{bits-below}
-use Rattle.ranges.proofs.Files.{reg-word, with-word}
+use Rattle.ranges.proofs.Files.{FileFits, reg-word, with-word}
 use Rattle.ranges.proofs.Instructions.{Completes, completes}
 use Rattle.ranges.proofs.Control.{CoreFits, file-fits, next-core-fits, gives-fits, lowered-fits, levels-fit}
 use Rattle.ranges.proofs.Control.{highest-below, controlled-fits}
-use Rattle.ranges.proofs.Pages.{FaultFits, LentFits, rights-fit, translated-fits, faulted-fits, marked-fits}
-use Rattle.ranges.proofs.Pages.{tested-fits, tested-fault, stored-fits, read-words}
-use Rattle.ranges.proofs.Places.{set-words}
+use Rattle.ranges.proofs.Pages.{FaultFits, LentFits, rights-fit, translated-fits, physical-fits, faulted-fits}
+use Rattle.ranges.proofs.Pages.{marked-fits, tested-fits, tested-fault, stored-fits, word-at-word, read-words}
+use Rattle.ranges.proofs.Places.{set-words, nil-words, cons-words}
 use Rattle.ranges.proofs.States.{StateFits}
 use Rattle.ranges.proofs.Packing.{FarFits, TurnFits, core-fits, with-core-fits, far-fits}
 
@@ -132,6 +137,53 @@ deposited-fits {c} h m t k =
     either PartFits (ltb a (length m)) (record { core = h; far = tt; lent = record { memory = w; tables = k .tables } })
     (failed-fits h OutOfRange m t refl tt k)
 
+-- LDATX to STDTX: the registers afterwards, with the words w and v loaded ..
+transferred-fits : {f : File} → FileFits f → (o : Transfer) {w v : ℕ} → w < 65536 → v < 65536
+    → FileFits (transferred o f w v)
+transferred-fits h Ldatx a b = with-word h A refl a
+transferred-fits h Ldxtx a b = with-word h X refl a
+transferred-fits h Lddtx a b = with-word (with-word h A refl a) D refl b
+transferred-fits h Ldbtx {w} a b =
+    with-word h B refl (or-lt 16 0o177000 (w * 2 % wordRange) (omega arith) (omega arith))
+transferred-fits h Statx a b = h
+transferred-fits h Stztx a b = h
+transferred-fits h Stdtx a b = h
+
+-- .. the words stored ..
+triple-words : (w v : ℕ) → w < 65536 → v < 65536 → Words (wordsOf (triple w v))
+triple-words w v a b =
+    let last : Words (0 ∷ []) = cons-words 0 [] (omega arith) nil-words in
+    cons-words w (v ∷ 0 ∷ []) a (cons-words v (0 ∷ []) b last)
+
+transfer-words : {f : File} → FileFits f → (o : Transfer) → Words (wordsOf (transferStores o f))
+transfer-words h Ldatx = triple-words 0 0 (omega arith) (omega arith)
+transfer-words h Ldxtx = triple-words 0 0 (omega arith) (omega arith)
+transfer-words h Lddtx = triple-words 0 0 (omega arith) (omega arith)
+transfer-words h Ldbtx = triple-words 0 0 (omega arith) (omega arith)
+transfer-words h Statx = triple-words _ 0 (reg-word h A) (omega arith)
+transfer-words h Stztx = triple-words 0 0 (omega arith) (omega arith)
+transfer-words h Stdtx = triple-words _ _ (reg-word h A) (reg-word h D)
+
+-- .. and the whole
+transfer-fits : {c : Core} → CoreFits c → (m t : List ℕ) (o : Transfer) (d : ℕ) → LentFits m t
+    → PartFits (transferStage c m t o d)
+unfolding transferStage
+transfer-fits {c} h m t o d k =
+    let form : Bool = eqb (c .control .extended) 1 in
+    let p : ℕ = transferAddress (c .file) d in
+    let x : Translation = firstPlace form (length m) o p in
+    let y : Translation = secondPlace form (length m) o p in
+    let first : FaultFits x = physical-fits form (length m) (transferKind o) p in
+    let second : FaultFits y =
+    either FaultFits (twoWords o) (physical-fits form (length m) (transferKind o) (p + 1)) tt in
+    decided PartFits (passes (firstFault x y))
+    (λ e. record {
+      core = file-fits h (transferred-fits (h .file) o (word-at-word k x) (word-at-word k y));
+      far = tt;
+      lent = stored-fits (x ∷ y ∷ []) m t (wordsOf (transferStores o (c .file))) k (transfer-words (h .file) o);
+    })
+    (λ e. failed-fits h (firstFault x y) m t e (either FaultFits (passes x) second first) k)
+
 -- what is done outside the level
 left-fits : {c : Core} → CoreFits c → (x : Far) (m t : List ℕ) → FarFits x → LentFits m t → PartFits (part c 0 x m t)
 left-fits h x m t f k = record { core = h; far = f; lent = k }
@@ -148,6 +200,7 @@ system-fits l a h m t (Srb n) k = left-fits h (StoreBlock n) m t tt k
 system-fits l a h m t (Lrb n) k = left-fits h (LoadBlock n) m t tt k
 system-fits l a h m t Exam k = examined-fits h m t k
 system-fits l a h m t Depo k = deposited-fits h m t k
+system-fits l a h m t (Physical o d) k = transfer-fits h m t o d k
 system-fits l a h m t (Iox n) k = trapped-fits 7 (omega arith) (omega arith) h m t k
 system-fits l a h m t Ioxt k = trapped-fits 7 (omega arith) (omega arith) h m t k
 system-fits l a h m t (Ident n) k = trapped-fits 7 (omega arith) (omega arith) h m t k

@@ -101,8 +101,8 @@ module _ (s : State) (m t : List ℕ) where
         ∙ fill controlCount (replicate controlCount 0) (controlWords s) t
         (length-replicate {A = ℕ} controlCount 0) (control-length s hp)
 
-    pub loaded-tables : loadedWords 4 256 (imageOf s m t) ≡ t
+    pub loaded-tables : loadedWords 4 tableWords (imageOf s m t) ≡ t
     loaded-tables =
-        by-four 4 256
+        by-four 4 tableWords
         ∙ ap (λ (b : List ℕ). paste (replicate tableWords 0) 0 b tableWords) (dropped-control ∙ sym (append-nil t))
         ∙ fill tableWords (replicate tableWords 0) t [] (length-replicate {A = ℕ} tableWords 0) ht

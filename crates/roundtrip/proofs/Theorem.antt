@@ -59,7 +59,8 @@ four-pass words = rw (le-ltb words (0 + words) q)
 module _ (s : State) (m t : List ℕ) (h : Machine s m t) where
   tables-length : length t ≡ tableWords
   unfolding sizesFit
-  tables-length = eqb-true (length t) 256 (and-right (memorySize (length m)) (eqb (length t) 256) (h .sizes))
+  tables-length =
+      eqb-true (length t) tableWords (and-right (memorySize (length m)) (eqb (length t) tableWords) (h .sizes))
 
   image-length : length (imageOf s m t) ≡ length m + besideMemory
   unfolding imageOf
@@ -117,7 +118,7 @@ module _ (s : State) (m t : List ℕ) (h : Machine s m t) where
             answer = Done;
             state = loadedState (imageOf s m t);
             memory = loadedWords 1 (length m₀) (imageOf s m t);
-            tables = loadedWords 4 256 (imageOf s m t);
+            tables = loadedWords 4 tableWords (imageOf s m t);
           })
           (record { answer = Done; state = s; memory = m; tables = t })
       whole m₀ hm =

@@ -5,7 +5,7 @@ use mathlib.Core.Path.{_≡_}
 use mathlib.Core.Bool.{true, false}
 use mathlib.Core.List.{List, []}
 use lib.ListN.{take, length}
-use Rattle.isa.specs.Machine.{Typed, inRange, sizesFit}
+use Rattle.isa.specs.Machine.{tableWords, Typed, inRange, sizesFit}
 use Rattle.isa.specs.Images.{imageOf, imageSize, contents, bodies, contentsFit, entriesAnswer, namedWords}
 use Rattle.isa.specs.Images.{loadedState, loadedWords}
 use Rattle.isa.specs.Answers.{LoadCall, loadCall, loadAnswer, writtenOutput}
@@ -54,6 +54,6 @@ pub data Either (s : State) (i m t : List ℕ) (r : LoadCall) : Type 0 where
     answer = Done;
     state = loadedState i;
     memory = loadedWords 1 (length m) i;
-    tables = loadedWords 4 256 i;
+    tables = loadedWords 4 tableWords i;
   } → Either s i m t r
   refusal : (x : Refusal) → r ≡ record { answer = Refused x; state = s; memory = m; tables = t } → Either s i m t r

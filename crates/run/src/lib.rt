@@ -16,7 +16,7 @@ use levels::put_back;
 mod machine;
 pub mod step;
 
-// What a run leaves beside lent words: the running level and the control words 1 to 9 and 26, the steps taken, the
+// What a run leaves beside lent words: the running level and the control words 1 to 9, 26 and 27, the steps taken, the
 // interrupt that the last of them gave, or 0 (promised of a run of one step), and why the run ended.
 pub struct RunEnd {
     pub level: u16,

@@ -32,41 +32,43 @@ pub record Level : Type 0 where
   pub memory : List ℕ
   pub tables : List ℕ
 
--- one step of the level from a, by the paging switch g, ends at b with the event e
-abbrev pub Steps : ℕ → Level → Level → Event → Type 0
-Steps g a b e =
-    (l : ℕ) (k : Control) → k .paging ≡ g
+-- one step of the level from a, by the switches g for paging and x for extended mode, ends at b with the event e
+abbrev pub Steps : ℕ → ℕ → Level → Level → Event → Type 0
+Steps g x a b e =
+    (l : ℕ) (k : Control) → k .paging ≡ g → k .extended ≡ x
     → stepIn l (levelCore (a .file) (a .pcr) k) (a .memory) (a .tables)
     ≡ eventPart l (levelCore (b .file) (b .pcr) k) (b .memory) (b .tables) e
 
 -- a run of n steps from a goes on at b, behind `before` of them
-abbrev pub Reaches : ℕ → ℕ → Level → ℕ → Level → Type 0
-Reaches g n a before b =
-    (first : Bool) (l j : ℕ) (k : Control) (regs pcrs : List ℕ) → k .paging ≡ g → Executes l k → Levels l regs pcrs
+abbrev pub Reaches : ℕ → ℕ → ℕ → Level → ℕ → Level → Type 0
+Reaches g x n a before b =
+    (first : Bool) (l j : ℕ) (k : Control) (regs pcrs : List ℕ) → k .paging ≡ g → k .extended ≡ x → Executes l k
+    → Levels l regs pcrs
     → runFrom first n j (pack l (levelCore (a .file) (a .pcr) k) regs pcrs) (a .memory) (a .tables)
     ≡ runFrom first (n - before) (j + before) (pack l (levelCore (b .file) (b .pcr) k) regs pcrs) (b .memory)
     (b .tables)
 
 -- .. behind one more, which left something to be done
-abbrev pub Ends : ℕ → ℕ → Level → ℕ → Level → Event → Type 0
-Ends g n a before b e =
-    (first : Bool) (l j : ℕ) (k : Control) (regs pcrs : List ℕ) → k .paging ≡ g → Executes l k → Levels l regs pcrs
+abbrev pub Ends : ℕ → ℕ → ℕ → Level → ℕ → Level → Event → Type 0
+Ends g x n a before b e =
+    (first : Bool) (l j : ℕ) (k : Control) (regs pcrs : List ℕ) → k .paging ≡ g → k .extended ≡ x → Executes l k
+    → Levels l regs pcrs
     → runFrom first n j (pack l (levelCore (a .file) (a .pcr) k) regs pcrs) (a .memory) (a .tables)
     ≡ goesOn first n j before
     (leaves l regs pcrs (eventPart l (levelCore (b .file) (b .pcr) k) (b .memory) (b .tables) e))
 
 -- `before` quiet steps lead from a to b
-pub record Quiet (g n : ℕ) (a : Level) (before : ℕ) (b : Level) : Type 0 where
+pub record Quiet (g x n : ℕ) (a : Level) (before : ℕ) (b : Level) : Type 0 where
   pub most : before ≤ n
-  pub reaches : Reaches g n a before b
+  pub reaches : Reaches g x n a before b
   pub none : before ≡ 0 → b ≡ a
-  pub one : before ≡ 1 → Steps g a b Fine
+  pub one : before ≡ 1 → Steps g x a b Fine
 
 -- none yet
-pub at-start : (g n : ℕ) (a : Level) → Quiet g n a 0 a
-at-start g n a = record {
+pub at-start : (g x n : ℕ) (a : Level) → Quiet g x n a 0 a
+at-start g x n a = record {
   most = omega arith;
-  reaches = λ first l j k regs pcrs p x v.
+  reaches = λ first l j k regs pcrs p o y v.
       let e : j ≡ j + 0 = omega arith in
       let d : n ≡ n - 0 = omega arith in
       λ i. runFrom first (d i) (e i) (pack l (levelCore (a .file) (a .pcr) k) regs pcrs) (a .memory) (a .tables);
@@ -75,39 +77,39 @@ at-start g n a = record {
 }
 
 -- all n of them
-module _ {g n : ℕ} {a b : Level} (q : Quiet g n a n b) (h : 0 < n) where
-  pub all-quiet : Ends g n a (n - 1) b Fine
-  all-quiet first l j k regs pcrs p x w =
+module _ {g x n : ℕ} {a b : Level} (q : Quiet g x n a n b) (h : 0 < n) where
+  pub all-quiet : Ends g x n a (n - 1) b Fine
+  all-quiet first l j k regs pcrs p o y w =
       let c : Core = levelCore (b .file) (b .pcr) k in
       let e : n ≡ suc (n - 1) = omega (arith, h) in
-      q .reaches first l j k regs pcrs p x w
+      q .reaches first l j k regs pcrs p o y w
       ∙ ap (λ (y : ℕ). runFrom first (n - y) (j + y) (pack l c regs pcrs) (b .memory) (b .tables)) e
       ∙ sym (goes-on first n j (n - 1) (pack l c regs pcrs) (b .memory) (b .tables))
       ∙ ap (goesOn first n j (n - 1)) (sym (fine-leaves l c regs pcrs (b .memory) (b .tables)))
 
-  pub the-only : n - 1 ≡ 0 → Steps g a b Fine
+  pub the-only : n - 1 ≡ 0 → Steps g x a b Fine
   the-only z = q .one (omega (arith, z, h))
 
-module _ {g n : ℕ} {a b : Level} {before : ℕ} (q : Quiet g n a before b) (h : before < n) where
+module _ {g x n : ℕ} {a b : Level} {before : ℕ} (q : Quiet g x n a before b) (h : before < n) where
   -- one step more
-  pub then-ends : (d : Level) (e : Event) → Steps g b d e → Ends g n a before d e
-  then-ends d e s first l j k regs pcrs p x w =
+  pub then-ends : (d : Level) (e : Event) → Steps g x b d e → Ends g x n a before d e
+  then-ends d e s first l j k regs pcrs p o y w =
       let c : Core = levelCore (b .file) (b .pcr) k in
-      q .reaches first l j k regs pcrs p x w
-      ∙ runs-on first n j before (pack l c regs pcrs) (b .memory) (b .tables) h (x .runs)
-      (no-change first (pack l c regs pcrs) (x .stays))
+      q .reaches first l j k regs pcrs p o y w
+      ∙ runs-on first n j before (pack l c regs pcrs) (b .memory) (b .tables) h (y .runs)
+      (no-change first (pack l c regs pcrs) (y .stays))
       ∙ ap (goesOn first n j before)
-      (one-step l c regs pcrs (b .memory) (b .tables) x w ∙ ap (leaves l regs pcrs) (s l k p))
+      (one-step l c regs pcrs (b .memory) (b .tables) y w ∙ ap (leaves l regs pcrs) (s l k p o))
 
-  pub first-step : (d : Level) (e : Event) → Steps g b d e → before ≡ 0 → Steps g a d e
-  first-step d e s z = subst (λ (y : Level). Steps g y d e) (q .none z) s
+  pub first-step : (d : Level) (e : Event) → Steps g x b d e → before ≡ 0 → Steps g x a d e
+  first-step d e s z = subst (λ (y : Level). Steps g x y d e) (q .none z) s
 
-  pub then-quiet : (d : Level) → Steps g b d Fine → Quiet g n a (suc before) d
+  pub then-quiet : (d : Level) → Steps g x b d Fine → Quiet g x n a (suc before) d
   then-quiet d s = record {
     most = h;
-    reaches = λ first l j k regs pcrs p x v.
+    reaches = λ first l j k regs pcrs p o y v.
         let c : Core = levelCore (d .file) (d .pcr) k in
-        then-ends d Fine s first l j k regs pcrs p x v
+        then-ends d Fine s first l j k regs pcrs p o y v
         ∙ ap (goesOn first n j before) (fine-leaves l c regs pcrs (d .memory) (d .tables))
         ∙ goes-on first n j before (pack l c regs pcrs) (d .memory) (d .tables);
     none = λ z. absurd (omega (arith, z));
@@ -119,15 +121,16 @@ abbrev pub levelOn : File → ℕ → ℕ → List ℕ → List ℕ → Level
 levelOn f p ring m t = record { file = f; pcr = loweredPcr p ring; memory = m; tables = t }
 
 -- what step_in answers, by the rights r of the level
-pub stepped : (g p ring : ℕ) (f : File) (m t : List ℕ) {r : Rights} (s : LevelStep) (m' t' : List ℕ) → ring < 4
-    → r ≡ onRing (levelRights p g) ring → StepOfLevel f r m t s m' t'
-    → Steps g (levelOn f p ring m t) (levelOn (s .file) p (s .ring) m' t') (s .event)
-stepped g p ring f m t {r} s m' t' h e d l k q =
-    let rights : levelRights (loweredPcr p ring) (k .paging) ≡ r =
-    ap (levelRights (loweredPcr p ring)) q ∙ ring-rights p ring g h ∙ sym e in
+pub stepped : (g x p ring : ℕ) (f : File) (m t : List ℕ) {r : Rights} (s : LevelStep) (m' t' : List ℕ) → ring < 4
+    → r ≡ onRing (levelRights p g x) ring → StepOfLevel f r m t s m' t'
+    → Steps g x (levelOn f p ring m t) (levelOn (s .file) p (s .ring) m' t') (s .event)
+stepped g x p ring f m t {r} s m' t' h e d l k q o =
+    let rights : levelRights (loweredPcr p ring) (k .paging) (k .extended) ≡ r =
+    (λ i. levelRights (loweredPcr p ring) (q i) (o i)) ∙ ring-rights p ring g x h ∙ sym e in
     sym (d l (loweredPcr p ring) k rights)
-    ∙ ap (λ (x : ℕ). eventPart l (levelCore (s .file) x k) m' t' (s .event)) (ring-twice p ring (s .ring) h)
+    ∙ ap (λ (y : ℕ). eventPart l (levelCore (s .file) y k) m' t' (s .event)) (ring-twice p ring (s .ring) h)
 
 -- what quiet_steps answers
-abbrev pub Answered : File → ℕ → ℕ → List ℕ → List ℕ → ℕ → List ℕ → List ℕ → Burst → Type 0
-Answered f p g m t n m' t' b = (b .before < n) × (QuietSteps f p g m t n b m' t' × QuietStep f p g m t b m' t')
+abbrev pub Answered : File → ℕ → ℕ → ℕ → List ℕ → List ℕ → ℕ → List ℕ → List ℕ → Burst → Type 0
+Answered f p g x m t n m' t' b =
+    (b .before < n) × (QuietSteps f p g x m t n b m' t' × QuietStep f p g x m t b m' t')

@@ -40,14 +40,16 @@ goesOn first n j before r = afterStep first (runFrom first (n - suc before)) (j 
 abbrev pub burstPart : ℕ → Control → Burst → List ℕ → List ℕ → Part
 burstPart l k b m t = eventPart l (levelCore (b .file) (b .pcr) k) m t (b .event)
 
--- in every machine whose level has these registers and PCR and this paging switch
-abbrev pub QuietSteps : File → ℕ → ℕ → List ℕ → List ℕ → ℕ → Burst → List ℕ → List ℕ → Type 0
-QuietSteps f p g m t n b m' t' =
-    (first : Bool) (l j : ℕ) (k : Control) (regs pcrs : List ℕ) → k .paging ≡ g → Executes l k → Levels l regs pcrs
+-- in every machine whose level has these registers and PCR and these switches for paging and extended mode
+abbrev pub QuietSteps : File → ℕ → ℕ → ℕ → List ℕ → List ℕ → ℕ → Burst → List ℕ → List ℕ → Type 0
+QuietSteps f p g x m t n b m' t' =
+    (first : Bool) (l j : ℕ) (k : Control) (regs pcrs : List ℕ) → k .paging ≡ g → k .extended ≡ x → Executes l k
+    → Levels l regs pcrs
     → runFrom first n j (pack l (levelCore f p k) regs pcrs) m t
     ≡ goesOn first n j (b .before) (leaves l regs pcrs (burstPart l k b m' t'))
 
 -- .. and where the burst is one step
-abbrev pub QuietStep : File → ℕ → ℕ → List ℕ → List ℕ → Burst → List ℕ → List ℕ → Type 0
-QuietStep f p g m t b m' t' =
-    b .before ≡ 0 → (l : ℕ) (k : Control) → k .paging ≡ g → stepIn l (levelCore f p k) m t ≡ burstPart l k b m' t'
+abbrev pub QuietStep : File → ℕ → ℕ → ℕ → List ℕ → List ℕ → Burst → List ℕ → List ℕ → Type 0
+QuietStep f p g x m t b m' t' =
+    b .before ≡ 0 → (l : ℕ) (k : Control) → k .paging ≡ g → k .extended ≡ x
+    → stepIn l (levelCore f p k) m t ≡ burstPart l k b m' t'

@@ -35,13 +35,14 @@ fn burst_of(file: File, p: u16, ring: u32, before: u64, event: Event) -> Burst
     }
 }
 
-// At most n steps, up to the first that ends the burst. The PCR's tables and the paging switch stay; the ring is
-// carried.
+// At most n steps, up to the first that ends the burst. The PCR's tables and the switches for paging and extended mode
+// stay; the ring is carried.
 pub fn quiet_steps(
     classes: &[u8],
     f: File,
     p: u16,
     paging: u16,
+    extended: u16,
     mem: &mut [u16],
     tables: &mut [u16],
     n: u64,
@@ -50,12 +51,12 @@ pub fn quiet_steps(
     requires { ⌜ length (now tables) ≡ tableWords ⌝ }
     requires { ⌜ 0 < n ⌝ }
     ensures { λ b. ⌜ b .before < n ⌝ }
-    ensures { λ b. ⌜ QuietSteps f p paging (now (mem .entry)) (now (tables .entry)) n b (now (mem .exit))
+    ensures { λ b. ⌜ QuietSteps f p paging extended (now (mem .entry)) (now (tables .entry)) n b (now (mem .exit))
         (now (tables .exit)) ⌝ }
-    ensures { λ b. ⌜ QuietStep f p paging (now (mem .entry)) (now (tables .entry)) b (now (mem .exit))
+    ensures { λ b. ⌜ QuietStep f p paging extended (now (mem .entry)) (now (tables .entry)) b (now (mem .exit))
         (now (tables .exit)) ⌝ }
 {
-    let base = level_rights(p, paging);
+    let base = level_rights(p, paging, extended);
     let mut file = f;
     let mut ring = base.ring;
     let mut left = n;

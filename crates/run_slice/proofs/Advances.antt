@@ -37,12 +37,12 @@ advance-change s m t n a regs pcrs h x d (l, z) e =
 
 pub advance-burst : (l : ℕ) (c : Core) (regs pcrs m t m' t' : List ℕ) (n : ℕ) (b : Burst) (a : Advanced) (r : Turn)
     → Executes l (c .control) → Levels l regs pcrs
-    → QuietSteps (c .file) (c .pcr) (c .control .paging) m t n b m' t'
-    → QuietStep (c .file) (c .pcr) (c .control .paging) m t b m' t'
+    → QuietSteps (c .file) (c .pcr) (c .control .paging) (c .control .extended) m t n b m' t'
+    → QuietStep (c .file) (c .pcr) (c .control .paging) (c .control .extended) m t b m' t'
     → a .before ≡ b .before
     → r ≡ leaves l regs pcrs (burstPart l (c .control) b m' t')
     → Advance (pack l c regs pcrs) m t n a r × (a .before ≡ 0 → step (pack l c regs pcrs) m t ≡ r)
 advance-burst l c regs pcrs m t m' t' n b a r x v qs q z e = (
-  λ first j f. qs first l j (c .control) regs pcrs refl x v ∙ (λ i. goesOn first n j (sym z i) (sym e i)),
-  λ y. one-step l c regs pcrs m t x v ∙ ap (leaves l regs pcrs) (q (sym z ∙ y) l (c .control) refl) ∙ sym e,
+  λ first j f. qs first l j (c .control) regs pcrs refl refl x v ∙ (λ i. goesOn first n j (sym z i) (sym e i)),
+  λ y. one-step l c regs pcrs m t x v ∙ ap (leaves l regs pcrs) (q (sym z ∙ y) l (c .control) refl refl) ∙ sym e,
 )

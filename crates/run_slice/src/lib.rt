@@ -78,6 +78,6 @@ pub fn advance(
         return changed(level, c, regs, pcrs);
     }
     let f = c.file;
-    let b = quiet_steps(classes, f, c.pcr, k.paging, mem, tables, n);
+    let b = quiet_steps(classes, f, c.pcr, k.paging, k.extended, mem, tables, n);
     settled(level, b, k, regs, pcrs, mem, tables)
 }

@@ -1,19 +1,29 @@
--- Interrupts of accesses, and places by physical addresses.
+-- Interrupts of accesses, places by physical addresses, and the instructions by T and X.
 -- Assumes nothing.
 use Prim.Native.Nat.{ℕ, _<_}
 use native.Mathlib.Omega.{arith}
-use mathlib.Core.Path.{_≡_, refl, sym, subst}
-use mathlib.Core.Bool.{Bool, true, false}
-use lib.Dec.{ltb}
-use Rattle.isa.specs.Pages.{inMemory, withinMemory, faultOf, passes}
+use mathlib.Core.Path.{_≡_, refl, sym, ap, subst, _∙_}
+use mathlib.Core.Bool.{Bool, true, false, cond}
+use mathlib.Core.List.{List, [], _∷_}
+use lib.Dec.{ltb, eqb}
+use Rattle.isa.specs.Machine.{withFile}
+use Rattle.isa.specs.Pages.{inMemory, withinMemory, faultOf, passes, wordAt, wordsOf, Lent, lent, storeAll}
+use Rattle.isa.specs.Physical.{firstFault, transferStores, transferred}
+use Rattle.isa.specs.Step.{Part, part, failed, transferStage}
 use Rattle.isa.specs.declared.access.AccessKind.{AccessKind}
 use Rattle.isa.specs.declared.access.AccessKind.the-variants.{Fetch, Read, Write, Indirect}
 use Rattle.isa.specs.declared.access.Translation.{Translation}
 use Rattle.isa.specs.declared.access.Translation.the-variants.{NoAccess, Load, Store, LoadTable, StoreTable}
 use Rattle.isa.specs.declared.access.Translation.the-variants.{Protection, PageFault, OutOfRange}
+use Rattle.isa.specs.declared.answer.Far.the-variants.{Nothing}
+use Rattle.isa.specs.declared.instruction.Transfer.{Transfer}
+use Rattle.isa.specs.declared.machine.Core.{Core}
+use Rattle.isa.specs.declared.machine.File.{File}
 use Rattle.isa.proofs.Tests.{no-both}
 use Rattle.paging.specs.Within.{Within}
 use Rattle.paging.proofs.Laws.{physical-within}
+use Rattle.exec_physical.specs.Transfers.{Transferred, placeOf, nextPlaceOf}
+use Rattle.exec_physical.specs.declared.Transferred.{Transferred as Moved}
 
 pub fault-small : (x : Translation) → faultOf x < 16
 fault-small NoAccess = omega arith
@@ -51,3 +61,42 @@ module _ (words : ℕ) (k : AccessKind) (p : ℕ) {x : Translation} (e : x ≡ w
       go : (b : Bool) → ltb p words ≡ b → (ltb p words ≡ false) × (x ≡ OutOfRange)
       go true q = absurd (no-both (passed k (simp (q, e) at h)))
       go false q = (q, simp q at e)
+
+-- ---- LDATX to STDTX: what the code was answered, as the definition's stage
+
+module _ (c : Core) (m t : List ℕ) (o : Transfer) (d : ℕ) {r : Moved} {m' t' : List ℕ}
+    (h : Transferred (c .file) (eqb (c .control .extended) 1) o d m t r m' t') where
+  abbrev form : Bool
+  form = eqb (c .control .extended) 1
+
+  abbrev first : Translation
+  first = placeOf (c .file) form o d m
+
+  abbrev second : Translation
+  second = nextPlaceOf (c .file) form o d m
+
+  abbrev registers : File
+  registers = transferred o (c .file) (wordAt m t first) (wordAt m t second)
+
+  abbrev stores : Lent
+  stores = storeAll m t (first ∷ second ∷ []) (wordsOf (transferStores o (c .file)))
+
+  pub transfer-passed : {b : Core} → b ≡ withFile c (r .file) → passes (r .fault) ≡ true
+      → part b 0 Nothing m' t' ≡ transferStage c m t o d
+  unfolding transferStage
+  transfer-passed e z =
+      let both : passes (firstFault first second) ≡ true = ap passes (sym (h .fault)) ∙ z in
+      let file : r .file ≡ registers = h .file ∙ ap (λ (b : Bool). cond b registers (c .file)) z in
+      let left : lent m' t' ≡ stores = h .stored ∙ ap (λ (b : Bool). cond b stores (lent m t)) z in
+      let done : Part = part (withFile c registers) 0 Nothing (stores .memory) (stores .tables) in
+      (λ i. part ((e ∙ ap (withFile c) file) i) 0 Nothing (left i .memory) (left i .tables))
+      ∙ ap (λ (b : Bool). cond b done (failed c (firstFault first second) m t)) (sym both)
+
+  pub transfer-failed : passes (r .fault) ≡ false → failed c (r .fault) m' t' ≡ transferStage c m t o d
+  unfolding transferStage
+  transfer-failed z =
+      let one : passes (firstFault first second) ≡ false = ap passes (sym (h .fault)) ∙ z in
+      let left : lent m' t' ≡ lent m t = h .stored ∙ ap (λ (b : Bool). cond b stores (lent m t)) z in
+      let done : Part = part (withFile c registers) 0 Nothing (stores .memory) (stores .tables) in
+      (λ i. failed c (h .fault i) (left i .memory) (left i .tables))
+      ∙ ap (λ (b : Bool). cond b done (failed c (firstFault first second) m t)) (sym one)

@@ -5,12 +5,13 @@ ghost use mathlib.Core.List.{List};
 ghost use Prim.Native.Nat.{ℕ, _<_};
 ghost use lib.ListN.{length};
 ghost use Rattle.isa.specs.Step.{faulted, failed, trapped, part, examined, deposited, systemStage};
-ghost use Rattle.isa.specs.Step.{physicalAddress};
+ghost use Rattle.isa.specs.Step.{physicalAddress, transferStage};
 ghost use Rattle.event.specs.Events.{eventPart};
 ghost use Rattle.trap.specs.Parts.{nearPart};
 use control::instruction::controlled;
 use control::interrupt::gives;
 use event::Event;
+use exec_physical::transfer;
 use isa::access::AccessKind;
 use isa::access::Translation;
 use isa::answer::Far;
@@ -22,6 +23,7 @@ use isa::constant::INTERRUPT_MON;
 use isa::constant::INTERRUPT_PRIVILEGED;
 use isa::constant::WORD_RANGE;
 use isa::instruction::System;
+use isa::instruction::Transfer;
 use isa::machine::Core;
 use isa::machine::Register;
 use paging::place::fault_of;
@@ -104,6 +106,23 @@ fn deposited(c: Core, mem: &mut [u16], tables: &mut [u16]) -> Near
     failed(c, x)
 }
 
+// LDATX to STDTX.
+fn transferred(c: Core, mem: &mut [u16], tables: &mut [u16], o: Transfer, d: u16) -> Near
+    requires { ⌜ length (now tables) ≡ tableWords ⌝ }
+    ensures { λ n. ⌜ nearPart n (now (mem .exit)) (now (tables .exit))
+        ≡ transferStage c (now (mem .entry)) (now (tables .entry)) o d ⌝ }
+{
+    let k = c.control;
+    let f = c.file;
+    let r = transfer(f, k.extended == 1, mem, tables, o, d);
+    let x = r.fault;
+    let g = r.file;
+    if fault_of(x) == 0 {
+        return left(c.with_file(g), 0, Far::Nothing);
+    }
+    failed(c, x)
+}
+
 // A privileged instruction: done here, or left to be done outside the level.
 fn system_stage(level: u16, c: Core, mem: &mut [u16], tables: &mut [u16], q: System) -> Near
     requires { ⌜ level < levelCount ⌝ }
@@ -121,6 +140,7 @@ fn system_stage(level: u16, c: Core, mem: &mut [u16], tables: &mut [u16], q: Sys
         System::Lrb(n) => left(c, 0, Far::LoadBlock(n)),
         System::Exam => examined(c, mem, tables),
         System::Depo => deposited(c, mem, tables),
+        System::Physical(o, d) => transferred(c, mem, tables, o, d),
         System::Iox(_) => trapped(INTERRUPT_IOX, c),
         System::Ioxt => trapped(INTERRUPT_IOX, c),
         System::Ident(_) => trapped(INTERRUPT_IOX, c),

@@ -81,6 +81,7 @@ fn cleared() -> State
         Control {
             interrupts: 0,
             held: 0,
+            extended: 0,
             paging: 0,
             stopped: 0,
             pid: 0,

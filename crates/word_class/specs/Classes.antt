@@ -6,8 +6,8 @@ use mathlib.Core.List.{List, [], _∷_}
 use lib.Dec.{eqb}
 use lib.ListN.{length, getD}
 use Rattle.isa.specs.Decode.{byCode, byNumber, decode, memory, skip, logic, adding, control, traOf, trrOf, maskedOf}
-use Rattle.isa.specs.Decode.{switchOf, srbOf, lrbOf, shiftOf, conditionOf, displacementOf, sourceOf, destinationOf}
-use Rattle.isa.specs.Decode.{fourOf, argumentOf, bitOpOf}
+use Rattle.isa.specs.Decode.{switchOf, transferOf, srbOf, lrbOf, shiftOf, conditionOf, displacementOf, sourceOf}
+use Rattle.isa.specs.Decode.{destinationOf, fourOf, argumentOf, bitOpOf}
 use Rattle.isa.specs.declared.instruction.MemoryOp.the-variants.{Stz, Sta, Stt, Stx, Std, Ldd, Stf, Ldf, Min, Lda, Ldt}
 use Rattle.isa.specs.declared.instruction.MemoryOp.the-variants.{Ldx, Add, Sub, And, Ora, Mpy, Jmp, Jpl}
 use Rattle.isa.specs.declared.instruction.Relation.the-variants.{Eql, Geq, Gre, Mgre, Ueq, Lss, Lst, Mlst}
@@ -22,7 +22,7 @@ use Rattle.isa.specs.declared.instruction.Instruction.the-variants.{Unprivilege
 
 -- Classes are numbered in the order of the codes; the last is that of every illegal code.
 abbrev pub illegalClass : ℕ
-illegalClass = 59
+illegalClass = 60
 
 -- The rows of Decode.rows by their classes: the first code without its last two digits, which is its top ten bits, and
 -- the class, up to the next row's first code.
@@ -51,7 +51,8 @@ classRows =
     -- 130000 JAP to 133400 JXN
     ∷ (0o1300, 18)
     ∷ (0o1340, 19)
-    -- the skips, of which bits 7 and 6 are zero, and between them EXR, RMPY, RDIV, LBYT, SBYT, MIX3, IDENT
+    -- the skips, of which bits 7 and 6 are zero, and between them EXR, RMPY, RDIV, LBYT, SBYT, MIX3, LDATX to
+    -- STDTX, IDENT
     ∷ (0o1400, 20)
     ∷ (0o1401, illegalClass)
     ∷ (0o1404, 21)
@@ -77,43 +78,43 @@ classRows =
     ∷ (0o1430, 31)
     ∷ (0o1431, illegalClass)
     ∷ (0o1432, 32)
-    ∷ (0o1433, illegalClass)
-    ∷ (0o1434, 33)
+    ∷ (0o1433, 33)
+    ∷ (0o1434, 34)
     ∷ (0o1435, illegalClass)
-    ∷ (0o1436, 34)
+    ∷ (0o1436, 35)
     ∷ (0o1437, illegalClass)
     -- SWAP, RAND, REXO, RORA, RADD
-    ∷ (0o1440, 35)
-    ∷ (0o1444, 36)
-    ∷ (0o1450, 37)
-    ∷ (0o1454, 38)
-    ∷ (0o1460, 39)
-    ∷ (0o1464, 40)
-    ∷ (0o1470, 41)
-    ∷ (0o1474, 42)
-    -- TRA, TRR, MCL, MST; 150400 the switches, IOXT, EXAM and DEPO; WAIT
-    ∷ (0o1500, 43)
-    ∷ (0o1501, 44)
-    ∷ (0o1502, 45)
-    ∷ (0o1503, 46)
-    ∷ (0o1504, 47)
+    ∷ (0o1440, 36)
+    ∷ (0o1444, 37)
+    ∷ (0o1450, 38)
+    ∷ (0o1454, 39)
+    ∷ (0o1460, 40)
+    ∷ (0o1464, 41)
+    ∷ (0o1470, 42)
+    ∷ (0o1474, 43)
+    -- TRA, TRR, MCL, MST; 150400 the switches, SEX, REX, IOXT, EXAM and DEPO; WAIT
+    ∷ (0o1500, 44)
+    ∷ (0o1501, 45)
+    ∷ (0o1502, 46)
+    ∷ (0o1503, 47)
+    ∷ (0o1504, 48)
     ∷ (0o1505, illegalClass)
-    ∷ (0o1510, 48)
+    ∷ (0o1510, 49)
     -- NLZ, DNZ
     ∷ (0o1514, illegalClass)
     -- SRB, LRB, MON, IRW, IRR; the shifts; IOX
-    ∷ (0o1524, 49)
-    ∷ (0o1526, 50)
-    ∷ (0o1530, 51)
-    ∷ (0o1534, 52)
-    ∷ (0o1536, 53)
-    ∷ (0o1540, 54)
+    ∷ (0o1524, 50)
+    ∷ (0o1526, 51)
+    ∷ (0o1530, 52)
+    ∷ (0o1534, 53)
+    ∷ (0o1536, 54)
+    ∷ (0o1540, 55)
     ∷ (0o1600, illegalClass)
-    ∷ (0o1640, 55)
+    ∷ (0o1640, 56)
     -- SAB, SAA, SAT, SAX; AAB, AAA, AAT, AAX; 174000 BSET ZRO to 177600 BORA
-    ∷ (0o1700, 56)
-    ∷ (0o1720, 57)
-    ∷ (0o1740, 58)
+    ∷ (0o1700, 57)
+    ∷ (0o1720, 58)
+    ∷ (0o1740, 59)
     ∷ []
 
 unfoldable pub classOf : ℕ → ℕ
@@ -157,6 +158,7 @@ byClass c w =
     ∷ Unprivileged StoreByte
     ∷ skip Lst w
     ∷ Unprivileged Mix3
+    ∷ transferOf w
     ∷ skip Mlst w
     ∷ Privileged (Ident (w % 64))
     ∷ logic Swap w

@@ -1,4 +1,4 @@
--- The control words 1 to 9 and 26.
+-- The control words 1 to 9, 26 and 27.
 -- Assumes nothing.
 use mathlib.Core.Path.{sym, _∙_}
 use borrow.Author.Needs.{needs}

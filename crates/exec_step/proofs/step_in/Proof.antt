@@ -1,7 +1,8 @@
 -- The fetch passed and its word was executed, or it failed.
 -- Assumes nothing.
 use Prim.Native.Nat.{ℕ, _<_}
-use mathlib.Core.Path.{refl, ap, sym, subst, _∙_}
+use mathlib.Core.Path.{_≡_, refl, ap, sym, subst, _∙_}
+use mathlib.Core.Bool.{true}
 use lib.ListN.{length}
 use Rattle.isa.specs.Machine.{reg}
 use Rattle.isa.specs.Pages.{entryAt, slotOf, passes}
@@ -11,7 +12,9 @@ use Rattle.paging.specs.Levels.{onRing, privilegedBy}
 use Rattle.paging.proofs.Outcomes.{passes-zero, fails-other}
 use Rattle.exec_memory.proofs.Stages.{ring-small}
 use Rattle.exec_step.specs.Fetches.{FetchOf, Kept, pageNext}
-use Rattle.exec_step.proofs.Fetches.{word-keeps, none-kept}
+use Rattle.event.specs.Events.{isFine}
+use Rattle.event.specs.declared.Event.{Event}
+use Rattle.exec_step.proofs.Fetches.{word-keeps, fine-before, none-kept}
 use Rattle.exec_step.proofs.Steps.{Fetched, step-passed, step-failed}
 use borrow.Author.Needs.{needs}
 use Rattle.exec_step.proofs.step_in.Statement.{statement}
@@ -45,7 +48,8 @@ fetched-at c =
 
 fetched : (c : tie.After-fault-of)
     → Fetched (started c .args .f) (started c .args .mem .now) (started c .args .tables .now) (started c .args .r)
-    (entryAt (started c .args .tables .now) (slotOf (started c .args .r .normal) (reg (started c .args .f) P)) .ring)
+    (entryAt (started c .args .r .extended) (started c .args .tables .now)
+    (slotOf (started c .args .r .normal) (reg (started c .args .f) P)) .ring)
     (fetching c .fetch .result .place)
     (c .fault-of .result)
     (fetching c .fetch .last .1 .1 .1 .1 .0)
@@ -109,7 +113,8 @@ returns c =
     let g = fetching tested .fetch .result in
     let e = done .executed-word in
     let p = fetching tested .before .before .before .get .ensures in
-    let word = simp (p, next .next .ensures, on .on-ring .ensures) at (e .ensures) in
+    let word = simp (p, next .next .ensures, on .on-ring .ensures) at (e .ensures .0) in
+    let alone = simp (next .next .ensures) at (e .ensures .1) in
     let small : g .ring < 4 =
     subst (λ (n : ℕ). n < 4) (sym (found .ring))
     (ring-small (a .tables .now) (reg (a .f) P) (a .r) (g .place) (start .pre .1 .1 .0) refl) in
@@ -118,8 +123,11 @@ returns c =
     ∙ passes-zero (g .place) (tested .fault-of .ensures) (passed on .if1 .taken) in
     let page = (simp p at (fetching tested .fetch .ensures .1 .0))
     ∙ ap (pageNext (length (a .mem .now)) rights (a .k) (reg (a .f) P)) (found .place) in
-    let kept = word-keeps (length (a .mem .now)) (a .f) rights (g .page) (g .word) _ _ (e .result) _ _
-    (start .pre .1 .0) word (fetching tested .fetch .ensures .1 .1) in (
+    let kept : isFine (c .by-privilege .result) ≡ true → Kept (length (a .mem .now)) rights (g .page) _ = λ fine.
+    let own = subst (λ (x : Event). isFine x ≡ true) (c .by-privilege .ensures) fine in
+    word-keeps (length (a .mem .now)) (a .f) rights (g .page) (g .word) _ _ (e .result) _ _
+    (start .pre .1 .0) word alone (fine-before _ (e .result .event) own)
+    (fetching tested .fetch .ensures .1 .1) in (
       small,
       (
         step-passed (fetched tested) (g .ring) (g .word) (g .page) (e .result) _ _ (passed on .if1 .taken)
@@ -128,7 +136,8 @@ returns c =
             (found .word) word,
         (
           rw passes-is page,
-          subst (λ (n : ℕ). Kept n rights (g .page) (e .last .1 .1 .1 .1 .1 .0)) (sym (e .kept .1 .1 .1 .1 .0)) kept,
+          λ fine. subst (λ (n : ℕ). Kept n rights (g .page) (e .last .1 .1 .1 .1 .1 .0)) (sym (e .kept .1 .1 .1 .1 .0))
+              (kept fine),
         ),
       ),
     )
@@ -155,7 +164,7 @@ returns-2 c =
         step-failed (fetched tested) (c .no-page .result) (failed .if1 .left),
         (
           rw fails-is (c .no-page .ensures),
-          none-kept _ (start .args .r) (c .no-page .result) _ (c .no-page .ensures),
+          λ fine. none-kept _ (start .args .r) (c .no-page .result) _ (c .no-page .ensures),
         ),
       ),
     )

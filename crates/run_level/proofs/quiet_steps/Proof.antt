@@ -2,6 +2,7 @@
 -- Assumes nothing.
 use Prim.Native.Nat.{ℕ, suc, _-_, _<_, _≤_}
 use mathlib.Core.Path.{_≡_, refl, sym, ap, subst, _∙_}
+use mathlib.Core.Bool.{true}
 use mathlib.Core.List.{List}
 use native.Mathlib.Omega.{arith}
 use native.Mathlib.Nat.{le-refl}
@@ -29,14 +30,14 @@ begun f p m t = record { file = f; pcr = p; memory = m; tables = t }
 
 -- n - left quiet steps lead from there to where the level stands, with the page that is kept
 abbrev Inv-loop : tie.InvT-loop
-Inv-loop classes p paging mem₀ tables₀ n base file₀ ring₀ left₀ page₀ mem tables file ring left page =
-    (Quiet paging n (begun file₀ p mem₀ tables₀) (n - left) (levelOn file p ring mem tables))
+Inv-loop classes p paging extended mem₀ tables₀ n base file₀ ring₀ left₀ page₀ mem tables file ring left page =
+    (Quiet paging extended n (begun file₀ p mem₀ tables₀) (n - left) (levelOn file p ring mem tables))
     × (((left ≤ n) × (ring < 4))
     × (((length mem ≡ length mem₀) × (length tables ≡ length tables₀))
     × Kept (length mem) (onRing base ring) page tables))
 
 abbrev μ-loop : tie.MeasureT-loop
-μ-loop classes p paging mem₀ tables₀ n base file₀ ring₀ left₀ page₀ mem tables file ring left page = left
+μ-loop classes p paging extended mem₀ tables₀ n base file₀ ring₀ left₀ page₀ mem tables file ring left page = left
 
 -- ---- places: the step before its event was asked for; the loop's test before the step; the function's start
 
@@ -64,7 +65,8 @@ there c =
 
 -- the code's step is one of the level
 one : (c : tie.After-step-in Inv-loop μ-loop)
-    → Steps (started (testing c) .args .paging) (here c) (there c) (c .step-in .result .event)
+    → Steps (started (testing c) .args .paging) (started (testing c) .args .extended) (here c) (there c)
+    (c .step-in .result .event)
 one c =
     let tested = testing c in
     let l = tested .before .loop in
@@ -72,22 +74,22 @@ one c =
     let s = c .step-in in
     let rights = c .before .before .before .on-ring .ensures
     ∙ ap (λ (r : Rights). onRing r (l .ring)) (tested .before .before .before .level-rights .ensures .0) in
-    stepped (a .paging) (a .p) (l .ring) (l .file) (l .mem) (l .tables) (s .result) (s .last .1 .1 .1 .1 .0)
-    (s .last .1 .1 .1 .1 .1 .0) (l .inv .1 .0 .1) rights (s .ensures .1 .0)
+    stepped (a .paging) (a .extended) (a .p) (l .ring) (l .file) (l .mem) (l .tables) (s .result)
+    (s .last .1 .1 .1 .1 .0) (s .last .1 .1 .1 .1 .1 .0) (l .inv .1 .0 .1) rights (s .ensures .1 .0)
 
--- the page that it leaves is kept for the next
-page-left : (c : tie.After-step-in Inv-loop μ-loop)
+-- the page that a step leaves is kept for the next, if the step ended fine
+page-left : (c : tie.After-step-in Inv-loop μ-loop) → isFine (c .step-in .result .event) ≡ true
     → Kept (length (c .step-in .last .1 .1 .1 .1 .0))
     (onRing (testing c .before .before .before .level-rights .result) (c .step-in .result .ring))
     (c .step-in .result .page)
     (c .step-in .last .1 .1 .1 .1 .1 .0)
-page-left c =
+page-left c fine =
     let s = c .step-in in
     subst
     (λ (r : Rights). Kept (length (s .last .1 .1 .1 .1 .0)) (onRing r (s .result .ring)) (s .result .page)
     (s .last .1 .1 .1 .1 .1 .0))
     (c .before .before .before .on-ring .ensures)
-    (s .ensures .1 .1 .1)
+    (s .ensures .1 .1 .1 fine)
 
 fewer : (c : tie.In-loop Inv-loop μ-loop) → started c .args .n - c .before .loop .left < started c .args .n
 fewer c = omega (arith, c .loop-test .taken, c .before .loop .inv .1 .0 .0)
@@ -113,8 +115,9 @@ loop-holds c =
     ∙ ap (λ (r : Rights). levelOn (a .f) (a .p) (r .ring) (a .mem .now) (a .tables .now)) (sym rights) in
     let none : 0 ≡ a .n - a .n = omega arith in
     let ring : level .result .ring < 4 = rw rights (omega arith) in (
-      subst (λ (k : ℕ). Quiet (a .paging) (a .n) start k here) none
-          (subst (Quiet (a .paging) (a .n) start 0) own (at-start (a .paging) (a .n) start)),
+      subst (λ (k : ℕ). Quiet (a .paging) (a .extended) (a .n) start k here) none
+          (subst (Quiet (a .paging) (a .extended) (a .n) start 0) own
+          (at-start (a .paging) (a .extended) (a .n) start)),
       (
         (le-refl _, ring),
         (
@@ -182,8 +185,8 @@ returns c =
     let e : Event = s .step-in .result .event in
     let quiet = tested .before .loop .inv .0 in
     subst
-    (Answered (a .f) (a .p) (a .paging) (a .mem .now) (a .tables .now) (a .n) (s .step-in .last .1 .1 .1 .1 .0)
-    (s .step-in .last .1 .1 .1 .1 .1 .0))
+    (Answered (a .f) (a .p) (a .paging) (a .extended) (a .mem .now) (a .tables .now) (a .n)
+    (s .step-in .last .1 .1 .1 .1 .0) (s .step-in .last .1 .1 .1 .1 .1 .0))
     (sym (c .burst-of .ensures)) (
       fewer tested,
       (
@@ -206,11 +209,14 @@ loop-again c =
     let a = started tested .args in
     let l = tested .before .loop in
     let e : Event = s .step-in .result .event in
-    let fine : e ≡ Fine = fine-event e (not-false (isFine e) (sym (c .before .ends .ensures) ∙ c .if1 .left)) in
-    let quiet : Steps (a .paging) (here s) (there s) Fine = subst (Steps (a .paging) (here s) (there s)) fine (one s) in
+    let well : isFine e ≡ true = not-false (isFine e) (sym (c .before .ends .ensures) ∙ c .if1 .left) in
+    let fine : e ≡ Fine = fine-event e well in
+    let quiet : Steps (a .paging) (a .extended) (here s) (there s) Fine =
+    subst (Steps (a .paging) (a .extended) (here s) (there s)) fine (one s) in
     let next : suc (a .n - l .left) ≡ a .n - (l .left - 1) = omega (arith, tested .loop-test .taken, l .inv .1 .0 .0) in
-    let less : l .left - 1 ≤ a .n = omega (arith, l .inv .1 .0 .0) in (
-      subst (λ (k : ℕ). Quiet (a .paging) (a .n) (begun (a .f) (a .p) (a .mem .now) (a .tables .now)) k (there s)) next
+    let less : l .left - 1 ≤ a .n = omega (arith, l .inv .1 .0 .0) in
+    let start : Level = begun (a .f) (a .p) (a .mem .now) (a .tables .now) in (
+      subst (λ (k : ℕ). Quiet (a .paging) (a .extended) (a .n) start k (there s)) next
           (then-quiet (l .inv .0) (fewer tested) (there s) quiet),
       (
         (less, s .step-in .ensures .0),
@@ -219,7 +225,7 @@ loop-again c =
             s .step-in .kept .1 .1 .1 .1 .0 ∙ l .inv .1 .1 .0 .0,
             s .step-in .kept .1 .1 .1 .1 .1 .0 ∙ l .inv .1 .1 .0 .1,
           ),
-          page-left s,
+          page-left s well,
         ),
       ),
     )
@@ -246,10 +252,10 @@ returns-2 c =
     let a = start .args in
     let d : Level = levelOn (l .file) (a .p) (l .ring) (l .mem) (l .tables) in
     let all : a .n - l .left ≡ a .n = omega (arith, c .before .loop-test .left) in
-    let q : Quiet (a .paging) (a .n) (begun (a .f) (a .p) (a .mem .now) (a .tables .now)) (a .n) d =
-    subst (λ (k : ℕ). Quiet (a .paging) (a .n) (begun (a .f) (a .p) (a .mem .now) (a .tables .now)) k d) all
-    (l .inv .0) in
-    subst (Answered (a .f) (a .p) (a .paging) (a .mem .now) (a .tables .now) (a .n) (l .mem) (l .tables))
+    let from : Level = begun (a .f) (a .p) (a .mem .now) (a .tables .now) in
+    let q : Quiet (a .paging) (a .extended) (a .n) from (a .n) d =
+    subst (λ (k : ℕ). Quiet (a .paging) (a .extended) (a .n) from k d) all (l .inv .0) in
+    subst (Answered (a .f) (a .p) (a .paging) (a .extended) (a .mem .now) (a .tables .now) (a .n) (l .mem) (l .tables))
     (sym (c .burst-of2 .ensures))
     (omega (arith, start .pre .1 .1), (all-quiet q (start .pre .1 .1), λ z. the-only q (start .pre .1 .1) z))
 

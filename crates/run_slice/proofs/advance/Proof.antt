@@ -58,7 +58,7 @@ settled-requires c κs =
     let bursting = lent .before .before .before .before in
     let tested = bursting .before .before .before .before in
     let k = started (tested .before) in
-    (k .pre .1 .0, bursting .quiet-steps .kept .1 .1 .1 .1 .1 .0 ∙ k .pre .1 .1 .0)
+    (k .pre .1 .0, bursting .quiet-steps .kept .1 .1 .1 .1 .1 .1 .0 ∙ k .pre .1 .1 .0)
 
 same-length-3 : tie.Need-same-length-3
 same-length-3 c = search needs
@@ -87,7 +87,7 @@ returns-2 c =
     let burst = bursting .quiet-steps in
     let out = settling .settled in
     let x : Executes (k .args .level) (k .args .c .control) = record { runs = k .pre .1 .1 .1 .1; stays = stays } in
-    let after = burst .last .1 .1 .1 .1 in
+    let after = burst .last .1 .1 .1 .1 .1 in
     let left = out .last .1 .1 .1 in
     let r : Turn = advancedTurn (out .result) (left .0) (left .1 .0) (left .1 .1 .0) (left .1 .1 .1 .0) in
     let level : out .result .level < levelCount =

@@ -62,6 +62,12 @@ enum-told-4 c = search needs
 deposited-requires : tie.Need-deposited-requires
 deposited-requires c κs = search needs
 
+enum-known-q-6 : tie.Need-enum-known-q-6
+enum-known-q-6 c = search needs
+
+transferred-requires : tie.Need-transferred-requires
+transferred-requires c κs = search needs
+
 enum-told-5 : tie.Need-enum-told-5
 enum-told-5 c = search needs
 
@@ -130,17 +136,29 @@ returns-9 c =
     let done = c .before .before .before .before in
     simp (done .before .before .before .enum-told4 .given .1) (done .deposited .ensures)
 
--- IOX
+same-length-5 : tie.Need-same-length-5
+same-length-5 c = search needs
+
+same-length-6 : tie.Need-same-length-6
+same-length-6 c = search needs
+
+-- LDATX to STDTX
 returns-10 : tie.Need-returns-10
-returns-10 c = simp (c .before .enum-told5 .given .1) (c .trapped .ensures _ _)
+returns-10 c =
+    let done = c .before .before .before .before in
+    simp (done .before .before .before .before .q6 .given .1) (done .transferred .ensures)
+
+-- IOX
+returns-11 : tie.Need-returns-11
+returns-11 c = simp (c .before .enum-told5 .given .1) (c .trapped .ensures _ _)
 
 -- IOXT
-returns-11 : tie.Need-returns-11
-returns-11 c = simp (c .before .enum-told6 .given .1) (c .trapped2 .ensures _ _)
+returns-12 : tie.Need-returns-12
+returns-12 c = simp (c .before .enum-told6 .given .1) (c .trapped2 .ensures _ _)
 
 -- IDENT
-returns-12 : tie.Need-returns-12
-returns-12 c = simp (c .before .enum-told7 .given .1) (c .trapped3 .ensures _ _)
+returns-13 : tie.Need-returns-13
+returns-13 c = simp (c .before .enum-told7 .given .1) (c .trapped3 .ensures _ _)
 
 pub system-stage-spec : {M : Type 1} → statement M
 system-stage-spec =
@@ -165,6 +183,8 @@ system-stage-spec =
     examined-requires
     enum-told-4
     deposited-requires
+    enum-known-q-6
+    transferred-requires
     enum-told-5
     trapped-requires
     enum-told-6
@@ -184,6 +204,9 @@ system-stage-spec =
     same-length-3
     same-length-4
     returns-9
+    same-length-5
+    same-length-6
     returns-10
     returns-11
-    returns-12)
+    returns-12
+    returns-13)

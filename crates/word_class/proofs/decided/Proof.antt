@@ -17,6 +17,7 @@ singles =
     ∷ 0o1500
     ∷ 0o1436
     ∷ 0o1434
+    ∷ 0o1433
     ∷ 0o1432
     ∷ 0o1430
     ∷ 0o1426
@@ -49,6 +50,7 @@ decided-spec =
     (λ c. class-from 0o1426 0o1427 _ refl (omega arith) (omega arith))
     (λ c. class-from 0o1430 0o1431 _ refl (omega arith) (omega arith))
     (λ c. class-from 0o1432 0o1433 _ refl (omega arith) (omega arith))
+    (λ c. class-from 0o1433 0o1434 _ refl (omega arith) (omega arith))
     (λ c. class-from 0o1434 0o1435 _ refl (omega arith) (omega arith))
     (λ c. class-from 0o1436 0o1437 _ refl (omega arith) (omega arith))
     (λ c. class-from 0o1500 0o1501 _ refl (omega arith) (omega arith))

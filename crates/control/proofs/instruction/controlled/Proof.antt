@@ -1,4 +1,4 @@
--- ION to MST, one by one.
+-- ION to MST, SEX and REX, one by one.
 -- Assumes nothing.
 use borrow.Author.Needs.{needs}
 use Rattle.control.proofs.instruction.controlled.Statement.{statement}
@@ -42,6 +42,18 @@ switched-requires-6 c κs = search needs
 
 enum-told-7 : tie.Need-enum-told-7
 enum-told-7 c = search needs
+
+with-extended-requires : tie.Need-with-extended-requires
+with-extended-requires c κs = search needs
+
+enum-told-8 : tie.Need-enum-told-8
+enum-told-8 c = search needs
+
+with-extended-requires-2 : tie.Need-with-extended-requires-2
+with-extended-requires-2 c κs = search needs
+
+enum-told-9 : tie.Need-enum-told-9
+enum-told-9 c = search needs
 
 waited-requires : tie.Need-waited-requires
 waited-requires c κs = search needs
@@ -97,25 +109,33 @@ returns-5 c = simp (c .switched5 .ensures, c .before .enum-told5 .given .1)
 returns-6 : tie.Need-returns-6
 returns-6 c = simp (c .switched6 .ensures, c .before .enum-told6 .given .1)
 
--- Wait
+-- Sex
 returns-7 : tie.Need-returns-7
-returns-7 c = simp (c .with-control .ensures, c .before .waited .ensures, c .before .before .enum-told7 .given .1)
+returns-7 c = simp (c .with-extended .ensures, c .before .enum-told7 .given .1)
+
+-- Rex
+returns-8 : tie.Need-returns-8
+returns-8 c = simp (c .with-extended2 .ensures, c .before .enum-told8 .given .1)
+
+-- Wait
+returns-9 : tie.Need-returns-9
+returns-9 c = simp (c .with-control .ensures, c .before .waited .ensures, c .before .before .enum-told9 .given .1)
 
 -- Tra(r)
-returns-8 : tie.Need-returns-8
-returns-8 c = simp (c .read .ensures, c .before .before .o .given .1)
+returns-10 : tie.Need-returns-10
+returns-10 c = simp (c .read .ensures, c .before .before .o .given .1)
 
 -- Trr(r)
-returns-9 : tie.Need-returns-9
-returns-9 c = simp (c .written .ensures, c .before .before .o2 .given .1)
+returns-11 : tie.Need-returns-11
+returns-11 c = simp (c .written .ensures, c .before .before .o2 .given .1)
 
 -- Mcl(r)
-returns-10 : tie.Need-returns-10
-returns-10 c = simp (c .bits-cleared .ensures, c .before .before .o3 .given .1)
+returns-12 : tie.Need-returns-12
+returns-12 c = simp (c .bits-cleared .ensures, c .before .before .o3 .given .1)
 
 -- Mst(r)
-returns-11 : tie.Need-returns-11
-returns-11 c = simp (c .bits-set .ensures, c .before .before .o4 .given .1)
+returns-13 : tie.Need-returns-13
+returns-13 c = simp (c .bits-set .ensures, c .before .before .o4 .given .1)
 
 pub controlled-spec : {M : Type 1} → statement M
 controlled-spec =
@@ -134,6 +154,10 @@ controlled-spec =
     enum-told-6
     switched-requires-6
     enum-told-7
+    with-extended-requires
+    enum-told-8
+    with-extended-requires-2
+    enum-told-9
     waited-requires
     with-control-requires
     enum-known-o
@@ -154,4 +178,6 @@ controlled-spec =
     returns-8
     returns-9
     returns-10
-    returns-11)
+    returns-11
+    returns-12
+    returns-13)

@@ -1,5 +1,6 @@
 -- Each number is in a row of the table, and `_` stands for the rest.
 -- Assumes nothing.
+use native.Mathlib.Omega.{arith}
 use mathlib.Core.Path.{refl}
 use mathlib.Core.List.{[], _∷_}
 use Rattle.isa.specs.Decode.{maskedOf}
@@ -31,7 +32,7 @@ returns-3 c = search needs
 -- any other
 returns-4 : tie.Need-returns-4
 unfolding maskedOf
-returns-4 c = no-low-code (0o07 ∷ 0o06 ∷ 0o01 ∷ []) _ _ _ refl (c .match .rest)
+returns-4 c = no-low-code 64 (0o07 ∷ 0o06 ∷ 0o01 ∷ []) _ _ _ (omega arith) refl (c .match .rest)
 
 pub masked-of-spec : {M : Type 1} → statement M
 masked-of-spec =

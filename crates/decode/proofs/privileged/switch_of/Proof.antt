@@ -1,5 +1,6 @@
 -- Each number is in a row of the table, and `_` stands for the rest.
 -- Assumes nothing.
+use native.Mathlib.Omega.{arith}
 use mathlib.Core.Path.{refl}
 use mathlib.Core.List.{[], _∷_}
 use Rattle.isa.specs.Decode.{switchOf}
@@ -24,6 +25,12 @@ control-requires-5 c κs = search needs
 
 control-requires-6 : tie.Need-control-requires-6
 control-requires-6 c κs = search needs
+
+control-requires-7 : tie.Need-control-requires-7
+control-requires-7 c κs = search needs
+
+control-requires-8 : tie.Need-control-requires-8
+control-requires-8 c κs = search needs
 
 returns : tie.Need-returns
 unfolding switchOf
@@ -61,11 +68,20 @@ returns-9 : tie.Need-returns-9
 unfolding switchOf
 returns-9 c = search needs
 
--- any other
 returns-10 : tie.Need-returns-10
 unfolding switchOf
-returns-10 c =
-    no-low-code (0o17 ∷ 0o16 ∷ 0o15 ∷ 0o12 ∷ 0o10 ∷ 0o05 ∷ 0o04 ∷ 0o02 ∷ 0o01 ∷ []) _ _ _ refl (c .match .rest)
+returns-10 c = search needs
+
+returns-11 : tie.Need-returns-11
+unfolding switchOf
+returns-11 c = search needs
+
+-- any other
+returns-12 : tie.Need-returns-12
+unfolding switchOf
+returns-12 c =
+    no-low-code 64 (0o17 ∷ 0o16 ∷ 0o15 ∷ 0o12 ∷ 0o10 ∷ 0o07 ∷ 0o06 ∷ 0o05 ∷ 0o04 ∷ 0o02 ∷ 0o01 ∷ []) _ _ _ (omega arith)
+    refl (c .match .rest)
 
 pub switch-of-spec : {M : Type 1} → statement M
 switch-of-spec =
@@ -77,6 +93,8 @@ switch-of-spec =
     control-requires-4
     control-requires-5
     control-requires-6
+    control-requires-7
+    control-requires-8
     returns
     returns-2
     returns-3
@@ -86,4 +104,6 @@ switch-of-spec =
     returns-7
     returns-8
     returns-9
-    returns-10)
+    returns-10
+    returns-11
+    returns-12)

@@ -1,5 +1,6 @@
 -- Each number is in a row of the table, and `_` stands for the rest.
 -- Assumes nothing.
+use native.Mathlib.Omega.{arith}
 use mathlib.Core.Path.{refl}
 use mathlib.Core.List.{[], _∷_}
 use Rattle.isa.specs.Decode.{traOf}
@@ -63,7 +64,9 @@ returns-8 c = search needs
 -- any other
 returns-9 : tie.Need-returns-9
 unfolding traOf
-returns-9 c = no-low-code (0o14 ∷ 0o11 ∷ 0o07 ∷ 0o06 ∷ 0o05 ∷ 0o04 ∷ 0o03 ∷ 0o01 ∷ []) _ _ _ refl (c .match .rest)
+returns-9 c =
+    no-low-code 64 (0o14 ∷ 0o11 ∷ 0o07 ∷ 0o06 ∷ 0o05 ∷ 0o04 ∷ 0o03 ∷ 0o01 ∷ []) _ _ _ (omega arith) refl
+    (c .match .rest)
 
 pub tra-of-spec : {M : Type 1} → statement M
 tra-of-spec =

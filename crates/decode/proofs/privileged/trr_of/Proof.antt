@@ -1,5 +1,6 @@
 -- Each number is in a row of the table, and `_` stands for the rest.
 -- Assumes nothing.
+use native.Mathlib.Omega.{arith}
 use mathlib.Core.Path.{refl}
 use mathlib.Core.List.{[], _∷_}
 use Rattle.isa.specs.Decode.{trrOf}
@@ -42,7 +43,7 @@ returns-5 c = search needs
 -- any other
 returns-6 : tie.Need-returns-6
 unfolding trrOf
-returns-6 c = no-low-code (0o07 ∷ 0o06 ∷ 0o05 ∷ 0o03 ∷ 0o01 ∷ []) _ _ _ refl (c .match .rest)
+returns-6 c = no-low-code 64 (0o07 ∷ 0o06 ∷ 0o05 ∷ 0o03 ∷ 0o01 ∷ []) _ _ _ (omega arith) refl (c .match .rest)
 
 pub trr-of-spec : {M : Type 1} → statement M
 trr-of-spec =

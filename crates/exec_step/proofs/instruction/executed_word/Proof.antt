@@ -6,6 +6,7 @@ use Rattle.isa.specs.Decode.{decode}
 use Rattle.isa.specs.declared.access.Rights.{Rights}
 use Rattle.paging.specs.Levels.{byFlags}
 use Rattle.paging.proofs.Levels.{flags-below}
+use Rattle.exec_step.specs.Steps.{unprivileged}
 use Rattle.exec_step.proofs.Steps.{word-executed}
 use borrow.Author.Needs.{needs}
 use Rattle.exec_step.proofs.instruction.executed_word.Statement.{statement}
@@ -48,7 +49,10 @@ returns c =
     let a = start .args in
     let rights = flags .by-flags .ensures ∙ ap (byFlags (a .r)) (flags .before .get .ensures) in
     let i = decoded .decode .ensures ∙ ap decode (decoded .before .followed .ensures) in
-    word-executed (a .f) _ _ (a .at) (a .w) (a .r) _ _ _ rights i (executed .instruction-stage .ensures)
+    let stage = executed .instruction-stage .ensures in (
+      word-executed (a .f) _ _ (a .at) (a .w) (a .r) _ _ _ rights i (stage .0),
+      λ fine. ap unprivileged (sym i) ∙ stage .1 fine,
+    )
 
 pub executed-word-spec : {M : Type 1} → statement M
 executed-word-spec =

@@ -9,10 +9,12 @@ use Rattle.isa.specs.Step.{instructionStage}
 use Rattle.event.specs.declared.Ending.{Ending}
 use Rattle.event.specs.declared.Event.the-variants.{Monitor}
 use Rattle.event.specs.declared.Event.{Event}
-use Rattle.event.specs.Events.{eventPart, byPrivilege}
+use Rattle.event.specs.Events.{eventPart, byPrivilege, isFine}
 use Rattle.isa.specs.Machine.{nextCore}
 use Rattle.isa.specs.Step.{privileged}
 use Rattle.exec_memory.proofs.Stages.{file-left}
+use Rattle.isa.proofs.Tests.{no-both}
+use Rattle.exec_step.specs.Steps.{unprivileged}
 use Rattle.exec_step.proofs.Steps.{privileged-part}
 use borrow.Author.Needs.{needs}
 use Rattle.exec_step.proofs.instruction.instruction_stage.Statement.{statement}
@@ -62,9 +64,11 @@ returns c =
     let told = served .before .before .before .before in
     let start = told .before .before .before .before in
     let a = start .args in
-    λ l k s.
-    served .user-stage .ensures l k s
-    ∙ ap (instructionStage l k (a .mem .now) (a .tables .now)) (sym (told .i .given .1))
+    let alone = ap unprivileged (told .i .given .1) in (
+      λ l k s. served .user-stage .ensures l k s
+          ∙ ap (instructionStage l k (a .mem .now) (a .tables .now)) (sym (told .i .given .1)),
+      λ fine. alone,
+    )
 
 -- Privileged
 returns-2 : tie.Need-returns-2
@@ -72,11 +76,13 @@ unfolding instructionStage eventPart byPrivilege
 returns-2 c =
     let told = c .before .before in
     let start = told .before .before .before .before in
-    let a = start .args in
-    λ l k s.
-    file-left l _ _ (s .executing) (c .with-event .ensures)
-    ∙ privileged-part l (nextCore k) (a .mem .now) (a .tables .now) _ (privileged k)
-    ∙ ap (instructionStage l k (a .mem .now) (a .tables .now)) (sym (told .i2 .given .1))
+    let a = start .args in (
+      λ l k s.
+          file-left l _ _ (s .executing) (c .with-event .ensures)
+          ∙ privileged-part l (nextCore k) (a .mem .now) (a .tables .now) _ (privileged k)
+          ∙ ap (instructionStage l k (a .mem .now) (a .tables .now)) (sym (told .i2 .given .1)),
+      λ fine. absurd (no-both (ap (λ (e : Ending). isFine (e .event)) (sym (c .with-event .ensures)) ∙ fine)),
+    )
 
 -- Execute
 returns-3 : tie.Need-returns-3
@@ -84,10 +90,12 @@ unfolding instructionStage eventPart byPrivilege
 returns-3 c =
     let told = c .before in
     let start = told .before .before .before .before in
-    let a = start .args in
-    λ l k s.
-    file-left l _ _ (s .executing) (c .with-event2 .ensures)
-    ∙ ap (instructionStage l k (a .mem .now) (a .tables .now)) (sym (told .enum-told .given .1))
+    let a = start .args in (
+      λ l k s.
+          file-left l _ _ (s .executing) (c .with-event2 .ensures)
+          ∙ ap (instructionStage l k (a .mem .now) (a .tables .now)) (sym (told .enum-told .given .1)),
+      λ fine. absurd (no-both (ap (λ (e : Ending). isFine (e .event)) (sym (c .with-event2 .ensures)) ∙ fine)),
+    )
 
 -- Monitor
 returns-4 : tie.Need-returns-4
@@ -98,10 +106,13 @@ returns-4 c =
     let a = start .args in
     let n = told .i3 .given .0 .0 in
     let h : SFits w16 n = search needs in
-    let number : Event → Ending = λ e. record { file = a .f; event = e } in
-    λ l k s.
-    file-left l _ _ (s .executing) (c .with-event3 .ensures ∙ ap (λ (z : ℤ). number (Monitor z)) (toZ-ofZ w16 n h))
-    ∙ ap (instructionStage l k (a .mem .now) (a .tables .now)) (sym (told .i3 .given .1))
+    let number : Event → Ending = λ e. record { file = a .f; event = e } in (
+      λ l k s.
+          file-left l _ _ (s .executing)
+          (c .with-event3 .ensures ∙ ap (λ (z : ℤ). number (Monitor z)) (toZ-ofZ w16 n h))
+          ∙ ap (instructionStage l k (a .mem .now) (a .tables .now)) (sym (told .i3 .given .1)),
+      λ fine. absurd (no-both (ap (λ (e : Ending). isFine (e .event)) (sym (c .with-event3 .ensures)) ∙ fine)),
+    )
 
 -- Illegal
 returns-5 : tie.Need-returns-5
@@ -109,10 +120,12 @@ unfolding instructionStage eventPart byPrivilege
 returns-5 c =
     let told = c .before in
     let start = told .before .before .before .before in
-    let a = start .args in
-    λ l k s.
-    file-left l _ _ (s .executing) (c .with-event4 .ensures)
-    ∙ ap (instructionStage l k (a .mem .now) (a .tables .now)) (sym (told .enum-told2 .given .1))
+    let a = start .args in (
+      λ l k s.
+          file-left l _ _ (s .executing) (c .with-event4 .ensures)
+          ∙ ap (instructionStage l k (a .mem .now) (a .tables .now)) (sym (told .enum-told2 .given .1)),
+      λ fine. absurd (no-both (ap (λ (e : Ending). isFine (e .event)) (sym (c .with-event4 .ensures)) ∙ fine)),
+    )
 
 pub instruction-stage-spec : {M : Type 1} → statement M
 instruction-stage-spec =

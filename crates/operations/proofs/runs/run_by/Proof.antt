@@ -75,7 +75,7 @@ slice-aggregate-run-2 c = search needs
 slice-aggregate-run-3 : tie.Need-slice-aggregate-run-3
 slice-aggregate-run-3 c = sym (pcrs-long (started (asked (c .before .before .before .before))))
 
--- the table of the classes; a state in range; the words of all levels; page tables of 256 words
+-- the table of the classes; a state in range; the words of all levels; page tables of 512 words
 run-requires : tie.Need-run-requires
 run-requires c κs =
     let told = made c .before in

@@ -19,19 +19,19 @@ enum-told-4 c = search needs
 
 -- Fetch
 returns : tie.Need-returns
-returns c = simp (c .enum-told .given .1)
+returns c page = simp (c .enum-told .given .1)
 
 -- Read
 returns-2 : tie.Need-returns-2
-returns-2 c = simp (c .enum-told2 .given .1)
+returns-2 c page = simp (c .enum-told2 .given .1)
 
 -- Write
 returns-3 : tie.Need-returns-3
-returns-3 c = simp (c .enum-told3 .given .1)
+returns-3 c page = simp (c .enum-told3 .given .1)
 
 -- Indirect
 returns-4 : tie.Need-returns-4
-returns-4 c = simp (c .enum-told4 .given .1) (read-or-fetch (c .before .before .args .e))
+returns-4 c page = simp (c .enum-told4 .given .1) (read-or-fetch (c .before .before .args .e))
 
 pub permitted-spec : {M : Type 1} → statement M
 permitted-spec =

@@ -6,7 +6,7 @@ use Rattle.paging.proofs.entry.some_permit.Statement.{statement}
 use Rattle.paging.proofs.entry.some_permit.Tie as tie
 
 returns : tie.Need-returns
-returns c = any-permit (c .args .e) (omega arith)
+returns c page = any-permit (c .args .e) (omega arith)
 
 pub some-permit-spec : {M : Type 1} → statement M
 some-permit-spec = tie.close (tie.spec returns)

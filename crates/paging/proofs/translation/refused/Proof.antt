@@ -13,14 +13,14 @@ status-requires c κs = search needs
 
 -- some permit is set: a protection fault
 returns : tie.Need-returns
-returns c = simp (c .status .ensures, sym (c .before .before .some-permit .ensures) ∙ c .before .if1 .taken)
+returns c = simp (c .status .ensures, sym (c .before .before .some-permit .ensures 0) ∙ c .before .if1 .taken)
 
 status-requires-2 : tie.Need-status-requires-2
 status-requires-2 c κs = search needs
 
 -- no permit is set: a page fault
 returns-2 : tie.Need-returns-2
-returns-2 c = simp (c .status2 .ensures, sym (c .before .before .some-permit .ensures) ∙ c .before .if1 .left)
+returns-2 c = simp (c .status2 .ensures, sym (c .before .before .some-permit .ensures 0) ∙ c .before .if1 .left)
 
 pub refused-spec : {M : Type 1} → statement M
 refused-spec =

@@ -32,7 +32,7 @@ enum-told c = search needs
 slice-aggregate-run : tie.Need-slice-aggregate-run
 slice-aggregate-run c = search needs
 
--- an empty table; a level, page tables of 256 words, and as many words as were lent
+-- an empty table; a level, page tables of 512 words, and as many words as were lent
 run-requires : tie.Need-run-requires
 run-requires c κs =
     let answer = asked (told c) .parts-answer in
