@@ -2,21 +2,22 @@
 //! grows.
 mod image;
 
-use image::{Machine, machine};
+use image::{Image, Machine, machine};
 use second::State;
 use std::process::ExitCode;
 use std::time::Instant;
 
 const USAGE: &str = "\
 usage: bench [STEPS]
-       bench ours STEPS [calls | lent]
-       bench rust STEPS [calls]
+       bench ours STEPS [extended] [calls | lent]
+       bench rust STEPS [extended] [calls]
 
-Times the proved engine (ours) and the second engine (Rust) on mixed.octal, 30,000,000 steps a
-repetition unless said otherwise. The last line is 'ratio R', the median of our run over that of
-Rust's. With 'ours' or 'rust' it only runs that engine, for a profiler; with 'calls' by as many
-calls of the step, with 'lent' by as many of the lent step. Built with the feature 'inlined' the
-second engine has forced inlining on the path of its step.";
+Times the proved engine (ours) and the second engine (Rust) on mixed.octal, and a run of
+extended.octal, 30,000,000 steps a repetition unless said otherwise. The last line is 'ratio R',
+the median of our run of mixed.octal over that of Rust's. With 'ours' or 'rust' it only runs that
+engine, for a profiler; with 'extended' extended.octal; with 'calls' by as many calls of the step,
+with 'lent' by as many of the lent step. Built with the feature 'inlined' the second engine has
+forced inlining on the path of its step.";
 
 const REPETITIONS: usize = 5;
 /// A repetition is so many slices of each engine, in turn, so that what disturbs the machine disturbs both.
@@ -38,12 +39,12 @@ enum By {
     Lent,
 }
 
-fn ours(pages: usize, n: u64, by: By) -> Left {
+fn ours(image: Image, pages: usize, n: u64, by: By) -> Left {
     let Machine {
         mut state,
         mut memory,
         mut tables,
-    } = machine(pages);
+    } = machine(image, pages);
     let began = Instant::now();
     match by {
         By::Run => {
@@ -70,8 +71,8 @@ fn ours(pages: usize, n: u64, by: By) -> Left {
     }
 }
 
-fn rust(pages: usize, n: u64, by: By) -> Left {
-    let start = machine(pages);
+fn rust(image: Image, pages: usize, n: u64, by: By) -> Left {
+    let start = machine(image, pages);
     let mut state = State::from_words(&start.state.0);
     let (mut memory, mut tables) = (start.memory, start.tables);
     let began = Instant::now();
@@ -101,7 +102,7 @@ fn our_images(pages: usize, n: u64) -> Left {
         mut state,
         mut memory,
         mut tables,
-    } = machine(pages);
+    } = machine(Image::Mixed, pages);
     let mut out = vec![0; memory.len() + nd110::IMAGE_EXTRA];
     let began = Instant::now();
     for _ in 0..n {
@@ -118,7 +119,7 @@ fn our_images(pages: usize, n: u64) -> Left {
 }
 
 fn rust_images(pages: usize, n: u64) -> Left {
-    let start = machine(pages);
+    let start = machine(Image::Mixed, pages);
     let mut state = State::from_words(&start.state.0);
     let (mut memory, mut tables) = (start.memory, start.tables);
     let mut out = vec![0; memory.len() + second::IMAGE_EXTRA];
@@ -178,7 +179,7 @@ fn growth(steps: u64) {
     let time = |pages, n| {
         median(
             (0..REPETITIONS)
-                .map(|_| ours(pages, n, By::Run).seconds)
+                .map(|_| ours(Image::Mixed, pages, n, By::Run).seconds)
                 .collect(),
         )
     };
@@ -210,15 +211,24 @@ fn compare(steps: u64) {
         || rust_images(64, 10),
     );
     for (label, by) in [("step calls", By::Calls), ("lent step calls", By::Lent)] {
-        both(label, calls, || ours(64, calls, by), || rust(64, calls, by));
+        both(
+            label,
+            calls,
+            || ours(Image::Mixed, 64, calls, by),
+            || rust(Image::Mixed, 64, calls, by),
+        );
     }
     growth(few);
-    let ratio = both(
-        "run",
-        slice,
-        || ours(64, slice, By::Run),
-        || rust(64, slice, By::Run),
-    );
+    let run = |label, image| {
+        both(
+            label,
+            slice,
+            || ours(image, 64, slice, By::Run),
+            || rust(image, 64, slice, By::Run),
+        )
+    };
+    run("run in extended mode", Image::Extended);
+    let ratio = run("run", Image::Mixed);
     println!("ratio {ratio:.3}");
 }
 
@@ -232,6 +242,11 @@ fn main() -> ExitCode {
             return Ok(());
         }
         let steps = args.number("STEPS", 1..=u64::MAX)?;
+        let image = if args.next_is("extended") {
+            Image::Extended
+        } else {
+            Image::Mixed
+        };
         let by = if args.next_is("calls") {
             By::Calls
         } else if is_ours && args.next_is("lent") {
@@ -242,7 +257,7 @@ fn main() -> ExitCode {
         args.end()?;
         let engine = if is_ours { ours } else { rust };
         let p = nd110::Register::P as usize;
-        println!("{}", engine(64, steps, by).words[p]);
+        println!("{}", engine(image, 64, steps, by).words[p]);
         Ok(())
     })
 }

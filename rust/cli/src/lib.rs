@@ -152,16 +152,19 @@ mod tests {
             "0x5",
             "1e3",
             "5.0",
-            "513",
+            "16385",
             "18446744073709551616",
         ] {
-            assert!(args(&[text]).number("PAGES", 1..=512).is_err(), "{text}");
+            assert!(args(&[text]).number("PAGES", 1..=16_384).is_err(), "{text}");
         }
-        let mut two = args(&["1", "512"]);
-        assert_eq!(two.number("PAGES", 1..=512).unwrap(), 1);
-        assert_eq!(two.optional_number("PAGES", 1..=512).unwrap(), Some(512));
-        assert_eq!(two.optional_number("PAGES", 1..=512).unwrap(), None);
-        assert!(two.number("PAGES", 1..=512).is_err());
+        let mut two = args(&["1", "16384"]);
+        assert_eq!(two.number("PAGES", 1..=16_384).unwrap(), 1);
+        assert_eq!(
+            two.optional_number("PAGES", 1..=16_384).unwrap(),
+            Some(16_384)
+        );
+        assert_eq!(two.optional_number("PAGES", 1..=16_384).unwrap(), None);
+        assert!(two.number("PAGES", 1..=16_384).is_err());
         let most = args(&["18446744073709551615"]).number("STEPS", 0..=u64::MAX);
         assert_eq!(most.unwrap(), u64::MAX);
     }

@@ -6,9 +6,9 @@ mod report;
 
 use compare::engines::{Answers, Both};
 use report::Taken;
-use second::CONTROL_WORDS;
 use second::random::Random;
 use second::vectors::{Start, older_image};
+use second::{CONTROL_WORDS, TABLE_WORDS, control};
 use std::process::ExitCode;
 use std::time::{Duration, Instant};
 
@@ -163,12 +163,29 @@ impl Tally {
         for _ in 0..random.below(3) {
             let at = random.below(24) as usize;
             let control = CONTROL_WORDS as u16;
-            image[at] = random.pick(&[0, 1, 2, 3, 4, 5, control - 1, control, 128, 256, 0o177777]);
+            let tables = TABLE_WORDS as u16;
+            image[at] = random.pick(&[
+                0,
+                1,
+                2,
+                3,
+                4,
+                5,
+                control - 1,
+                control,
+                128,
+                256,
+                tables - 1,
+                tables,
+                0o177777,
+            ]);
         }
         let answers = both.load(&image);
         self.note("load", answers, &both);
-        let answers = both.load(&older_image(start));
-        self.note("load of an older image", answers, &both);
+        for words in [control::PGS_HELD, control::EXTENDED] {
+            let answers = both.load(&older_image(start, words));
+            self.note("load of an older image", answers, &both);
+        }
     }
 }
 

@@ -2,7 +2,7 @@
 
 use second::random::Random;
 use second::vectors::{self, Start};
-use second::{CONTROL_WORDS, PAGE, REGISTER_WORDS, Reg, next_word};
+use second::{CONTROL_WORDS, PAGE, REGISTER_WORDS, Reg, TABLE_WORDS, next_word};
 
 /// Instruction words of every kind: those that the generator of one-step cases has fetched.
 pub fn pool(random: &mut Random) -> Vec<u16> {
@@ -39,9 +39,15 @@ pub fn start(random: &mut Random, pool: &[u16]) -> Start {
     }
     if !random.one_in(4) {
         more_pages(random, &mut start);
+        // The other mode's form in words that are left, for SEX and REX.
+        start.state.extended ^= 1;
+        more_pages(random, &mut start);
+        start.state.extended ^= 1;
     }
-    if random.one_in(4) {
-        window(random, &mut start);
+    match random.below(8) {
+        0 | 1 => window(random, &mut start),
+        2 | 3 => physical(random, &mut start),
+        _ => {}
     }
     for file in &mut start.state.files {
         for register in &mut file[1..] {
@@ -60,8 +66,8 @@ pub fn start(random: &mut Random, pool: &[u16]) -> Start {
 fn more_pages(random: &mut Random, start: &mut Start) {
     let pages = (start.memory.len() / PAGE) as u64;
     let ring = start.state.pcr[usize::from(start.state.level)] & 3;
-    for entry in &mut start.tables {
-        if *entry != 0 || random.one_in(16) {
+    for slot in 0..TABLE_WORDS / 2 {
+        if start.tables[slot << start.state.extended] != 0 || random.one_in(16) {
             continue;
         }
         let permits = match random.below(8) {
@@ -72,7 +78,8 @@ fn more_pages(random: &mut Random, start: &mut Start) {
             0 => random.below(4) as u16,
             _ => ring,
         };
-        *entry = permits << 13 | of_ring << 9 | random.below(pages) as u16;
+        let word = permits << 13 | of_ring << 9;
+        vectors::set_entry(start, slot, word, random.below(pages) as u16);
     }
 }
 
@@ -81,13 +88,39 @@ fn more_pages(random: &mut Random, start: &mut Start) {
 fn window(random: &mut Random, start: &mut Start) {
     let level = usize::from(start.state.level);
     start.state.pcr[level] |= 3;
+    let window = vectors::window(&start.state);
     for register in [Reg::B, Reg::X] {
-        start.state.files[level][register as usize] = 0o177400 + random.below(256) as u16;
+        start.state.files[level][register as usize] = vectors::in_window(random, window);
     }
-    for entry in &mut start.tables {
+    for entry in start.tables.iter_mut().step_by(1 << start.state.extended) {
         if random.one_in(2) {
             *entry |= 3 << 9;
         }
+    }
+}
+
+/// The running level on ring 2 or 3, with T and X on a physical address, the entry of its own code among them, and some
+/// of the seven that go by it ahead.
+fn physical(random: &mut Random, start: &mut Start) {
+    let level = usize::from(start.state.level);
+    start.state.pcr[level] |= 2;
+    let pcr = start.state.pcr[level];
+    if random.one_in(16) {
+        // A bank, and a page of the next.
+        start.memory.resize(65 * PAGE, 0);
+    }
+    vectors::physical_address(random, start, 0);
+    let p = start.state.files[level][Reg::P as usize];
+    if random.one_in(2) {
+        let slot = (pcr >> 9 & 3) << 6 | p >> 10;
+        let own = vectors::window(&start.state) + (slot << start.state.extended);
+        start.state.files[level][Reg::T as usize] = 0;
+        start.state.files[level][Reg::X as usize] = own + random.below(2) as u16;
+    }
+    for _ in 0..8 {
+        let at = random.below(start.memory.len() as u64) as usize / PAGE * PAGE;
+        let further = usize::from(p) + 1 + random.below(6) as usize;
+        start.memory[at + further % PAGE] = 0o143300 | random.word() & 0o77;
     }
 }
 

@@ -5,7 +5,7 @@
 
 use crate::Place::{Interrupt, Memory, Table};
 use crate::words::*;
-use crate::{Example, Source, Words};
+use crate::{Example, Source, Words, program};
 
 const fn row(
     at: &'static str,
@@ -15,15 +15,6 @@ const fn row(
     after: Words,
 ) -> Example {
     Example::one(Source::Section(at), text, word, before, after)
-}
-
-/// Several words and steps; a change of level is a step too.
-const fn program(next: &'static [u16], steps: usize, first: Example) -> Example {
-    Example {
-        next,
-        steps,
-        ..first
-    }
 }
 
 #[rustfmt::skip]
@@ -81,6 +72,26 @@ pub const EXAMPLES: &[Example] = &[
     row("2.10.3", "LDA * +2", 0o044002, &[(Memory(0o102), 5)], &[(A, 5)]),
     row("2.10.3", "LDA I +2, B, X", 0o047402,
         &[(B, 0o200), (X, 4), (Memory(0o202), 0o300), (Memory(0o304), 5)], &[(A, 5)]),
+
+    // Bit 13 of the status register, set and reset.
+    program(&[0o150001], 2, row("3.5.2", "SEX; TRA STS", 0o150406,
+        &[], &[(EXTENDED, 1), (A, 0o030000), (P, 0o102)])),
+    program(&[0o150001], 2, row("3.5.2", "REX; TRA STS", 0o150407,
+        &[(EXTENDED, 1)], &[(EXTENDED, 0), (A, 0o010000), (P, 0o102)])),
+    // Page 5 of table 2 has no permit: bits 0-7 are 205, multiplied by 2 they are the entry's word.
+    row("3.5.4", "LDA ,B", 0o044400,
+        &[(EXTENDED, 1), (PON, 1), (pcr(0), 0o2002), (B, 0o012345), (Table(0o400), 0o162000), (Table(0o401), 0),
+          (Table(0o412), 0)],
+        &[(Interrupt, 3), (IID, 0o10), (PGS, 0o040205), (HELD, 1), (Table(0o400), 0o166000)]),
+    // The first address of each page table, in normal mode and in extended mode.
+    row("3.6.2", "LDA ,B", 0o044400, &[(B, 0o177400), (Table(0), 0o5001)], &[(A, 0o5001)]),
+    row("3.6.2", "LDA ,B", 0o044400, &[(B, 0o177500), (Table(0o100), 0o5002)], &[(A, 0o5002)]),
+    row("3.6.2", "LDA ,B", 0o044400, &[(B, 0o177600), (Table(0o200), 0o5003)], &[(A, 0o5003)]),
+    row("3.6.2", "LDA ,B", 0o044400, &[(B, 0o177700), (Table(0o300), 0o5004)], &[(A, 0o5004)]),
+    row("3.6.2", "LDA ,B", 0o044400, &[(EXTENDED, 1), (B, 0o177000), (Table(0), 0o5001)], &[(A, 0o5001)]),
+    row("3.6.2", "LDA ,B", 0o044400, &[(EXTENDED, 1), (B, 0o177200), (Table(0o200), 0o5002)], &[(A, 0o5002)]),
+    row("3.6.2", "LDA ,B", 0o044400, &[(EXTENDED, 1), (B, 0o177400), (Table(0o400), 0o5003)], &[(A, 0o5003)]),
+    row("3.6.2", "LDA ,B", 0o044400, &[(EXTENDED, 1), (B, 0o177600), (Table(0o600), 0o5004)], &[(A, 0o5004)]),
 
     // 1: addresses 40000 to 45777 are the virtual pages 20 to 22, here the physical pages 0, 2 and 3. The first and the
     // last are used.

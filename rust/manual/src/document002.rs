@@ -5,9 +5,9 @@
 //! hand. Page 84 and others print no word: it is put together by the page's table of codes. Where the manual slips,
 //! docs/DECISIONS.md, part 2, point 15, says what holds, and the comment says "slip".
 
-use crate::Place::{Interrupt, Memory};
+use crate::Place::{Interrupt, Memory, Table};
 use crate::words::*;
-use crate::{Example, Source, Words};
+use crate::{Example, Source, Words, program};
 
 const fn row(page: u16, text: &'static str, word: u16, before: Words, after: Words) -> Example {
     Example::one(Source::Page(page), text, word, before, after)
@@ -34,7 +34,7 @@ pub const EXAMPLES: &[Example] = &[
     // The byte to the lower half of A, zero to the higher; page 4: an even byte address is the more significant half.
     row(27, "LBYT", 0o142200, &[(T, 0o300), (X, 2), (Memory(0o301), 0xab12)], &[(A, 0xab)]),
     row(27, "LBYT", 0o142200, &[(T, 0o300), (X, 3), (Memory(0o301), 0xab12)], &[(A, 0x12)]),
-    row(28, "LDATX", 0o143320, &[], ILLEGAL),
+    row(28, "LDATX", 0o143320, &[(T, 0), (X, 0o300), (Memory(0o302), 11)], &[(A, 11)]),
 
     // Copy A into D. As a RADD it sets C by the carry and clears O, and Q stays.
     row(43, "COPY SA DD", 0o146151, &[(A, 5), (D, 9), (STS, C | O | Q)], &[(D, 5), (STS, Q)]),
@@ -174,4 +174,28 @@ pub const EXAMPLES: &[Example] = &[
     row(125, "IDENT PL11", 0o143611, &[], NO_DEVICE),
     row(125, "IDENT PL12", 0o143622, &[], NO_DEVICE),
     row(125, "IDENT PL13", 0o143643, &[], NO_DEVICE),
+
+    row(129, "REX", 0o150407, &[(EXTENDED, 1)], &[(EXTENDED, 0)]),
+    row(129, "SEX", 0o150406, &[], &[(EXTENDED, 1)]),
+    // The seven, the address being T x 65,536 + X + displacement. Slips: page 134's "twice the effective address" is
+    // twice its contents; page 135 prints LDBTX's code for STATX, and STDIX; page 136 prints 143345, displacement 4.
+    row(134, "LDATX 0", 0o143300, &[(T, 0), (X, 0o300), (Memory(0o300), 5)], &[(A, 5)]),
+    row(134, "LDBTX 10", 0o143313, &[(T, 0), (X, 0o300), (Memory(0o301), 0o123)], &[(B, 0o177246)]),
+    row(134, "LDDTX 20", 0o143322, &[(T, 0), (X, 0o300), (Memory(0o302), 5), (Memory(0o303), 6)], &[(A, 5), (D, 6)]),
+    row(135, "LDXTX 0", 0o143301, &[(T, 0), (X, 0o300), (Memory(0o300), 5)], &[(X, 5)]),
+    row(135, "STATX 20", 0o143324, &[(T, 0), (X, 0o300), (A, 5)], &[(Memory(0o302), 5)]),
+    row(135, "STDTX 0", 0o143306, &[(T, 0), (X, 0o300), (A, 5), (D, 6)], &[(Memory(0o300), 5), (Memory(0o301), 6)]),
+    row(136, "STZTX 40", 0o143345, &[(T, 0), (X, 0o300)], &[(Memory(0o304), 0)]),
+    // What CLEPT replaces, for one element: link, page table word, place for the entry. Slip: LDETX for LDBTX.
+    program(&[0o143313, 0o044400, 0o131003, 0o143324, 0o000400, 0o143301, 0o124371], 9,
+        row(137, "JXZ *10; LDBTX 10; LDA ,B 0; JAZ *3; STATX 20; STZ ,B 0; LDXTX 0; JMP *-7", 0o133010,
+            &[(EXTENDED, 1), (T, 0), (X, 0o300), (Memory(0o300), 0), (Memory(0o301), 0o123), (Table(0o246), 0o166000)],
+            &[(A, 0o166000), (B, 0o177246), (X, 0), (Memory(0o302), 0o166000), (Table(0o246), 0), (P, 0o110)])),
+    // What SETPT replaces: link, page table word, and the entry, of which PGU is cleared.
+    program(&[0o143322, 0o174135, 0o143313, 0o020400, 0o143301, 0o124372], 8,
+        row(145, "JXZ *7; LDDTX 20; BSET ZRO 130 DA; LDBTX 10; STD ,B 0; LDXTX 0; JMP *-6", 0o133007,
+            &[(EXTENDED, 1), (T, 0), (X, 0o300), (Memory(0o300), 0), (Memory(0o301), 0o123),
+              (Memory(0o302), 0o166000), (Memory(0o303), 0o1777)],
+            &[(A, 0o162000), (D, 0o1777), (B, 0o177246), (X, 0), (Table(0o246), 0o162000), (Table(0o247), 0o1777),
+              (P, 0o107)])),
 ];

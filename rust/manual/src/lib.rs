@@ -21,9 +21,9 @@ pub const HERE: u16 = 0o100;
 
 /// Registers of all levels, and control words: the order is that of an image.
 const REGISTERS: usize = 128;
-const CONTROL: usize = 27;
+const CONTROL: usize = 28;
 const STATE: usize = REGISTERS + CONTROL;
-const TABLES: usize = 256;
+const TABLES: usize = 512;
 
 const P: usize = 2;
 const LEVEL: usize = REGISTERS;
@@ -148,6 +148,15 @@ fn name(index: usize) -> String {
         STATE => "the interrupt".to_string(),
         FIRST_TABLE..FIRST_MEMORY => format!("page table word {:03o}", index - FIRST_TABLE),
         _ => format!("memory word {:06o}", index - FIRST_MEMORY),
+    }
+}
+
+/// Several words and steps; a change of level is a step too.
+const fn program(next: &'static [u16], steps: usize, first: Example) -> Example {
+    Example {
+        next,
+        steps,
+        ..first
     }
 }
 

@@ -23,6 +23,8 @@ pub const IIE: Place = State(136);
 pub const PGS: Place = State(137);
 /// 1 while PGS holds a fault that was not read (document 02, card 3).
 pub const HELD: Place = State(154);
+/// 1 in extended mode (document 02, card 4).
+pub const EXTENDED: Place = State(155);
 
 /// A register of another level.
 pub const fn of(level: usize, register: Place) -> Place {

@@ -131,6 +131,18 @@ pub enum Logic {
     Rora,
 }
 
+/// Transfers to and from a physical address by T and X.
+#[derive(Clone, Copy, Debug, PartialEq, Eq)]
+pub enum PhysicalOp {
+    Ldatx,
+    Ldxtx,
+    Lddtx,
+    Ldbtx,
+    Statx,
+    Stztx,
+    Stdtx,
+}
+
 /// What an adding register operation adds to its two operands.
 #[derive(Clone, Copy, Debug, PartialEq, Eq)]
 pub enum AddOne {
@@ -273,6 +285,8 @@ pub enum Instr {
     Piof,
     Pon,
     Pion,
+    Sex,
+    Rex,
     Wait,
     Srb {
         level: u16,
@@ -290,6 +304,10 @@ pub enum Instr {
     },
     Exam,
     Depo,
+    Physical {
+        op: PhysicalOp,
+        disp: u16,
+    },
     Iox {
         device: u16,
     },
@@ -311,6 +329,8 @@ impl Instr {
                 | Piof
                 | Pon
                 | Pion
+                | Sex
+                | Rex
                 | Wait
                 | Srb { .. }
                 | Lrb { .. }
@@ -318,6 +338,7 @@ impl Instr {
                 | Irr { .. }
                 | Exam
                 | Depo
+                | Physical { .. }
                 | Iox { .. }
                 | Ioxt
                 | Ident
@@ -382,7 +403,7 @@ pub fn decode(word: u16) -> Instr {
     }
 }
 
-/// 140000 to 143777: skips, and seven codes of bits 10-6.
+/// 140000 to 143777: skips, and eight codes of bits 10-6.
 #[cfg_attr(feature = "inlined", inline(always))]
 fn skips(word: u16) -> Instr {
     let dst = Reg::low(word);
@@ -394,6 +415,7 @@ fn skips(word: u16) -> Instr {
         0o22 => Instr::Lbyt,
         0o26 => Instr::Sbyt,
         0o32 => Instr::Mix3,
+        0o33 => physical(word),
         0o36 => Instr::Ident,
         code if code & 3 == 0 => Instr::Skip {
             cond: skip_cond(word),
@@ -402,6 +424,23 @@ fn skips(word: u16) -> Instr {
         },
         _ => Instr::Illegal,
     }
+}
+
+/// 143300 to 143377: bits 5-3 the displacement, 2-0 the operation.
+#[cfg_attr(feature = "inlined", inline(always))]
+fn physical(word: u16) -> Instr {
+    let op = match word & 7 {
+        0 => PhysicalOp::Ldatx,
+        1 => PhysicalOp::Ldxtx,
+        2 => PhysicalOp::Lddtx,
+        3 => PhysicalOp::Ldbtx,
+        4 => PhysicalOp::Statx,
+        5 => PhysicalOp::Stztx,
+        6 => PhysicalOp::Stdtx,
+        _ => return Instr::Illegal,
+    };
+    let disp = word >> 3 & 7;
+    Instr::Physical { op, disp }
 }
 
 /// 150000 to 153777.
@@ -425,7 +464,7 @@ fn system(word: u16) -> Instr {
     }
 }
 
-/// 150400 to 150577: nine codes.
+/// 150400 to 150577: eleven codes.
 #[cfg_attr(feature = "inlined", inline(always))]
 fn control(word: u16) -> Instr {
     match word & 0o177 {
@@ -433,6 +472,8 @@ fn control(word: u16) -> Instr {
         0o02 => Instr::Ion,
         0o04 => Instr::Pof,
         0o05 => Instr::Piof,
+        0o06 => Instr::Sex,
+        0o07 => Instr::Rex,
         0o10 => Instr::Pon,
         0o12 => Instr::Pion,
         0o15 => Instr::Ioxt,

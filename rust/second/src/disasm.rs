@@ -1,8 +1,8 @@
 //! Words to assembler text, numbers in octal.
 
 use crate::decode::{
-    AddOne, BitOp, Instr, JumpCond, Logic, MemOp, Mode, Reg, ShiftKind, ShiftReg, SkipCond,
-    Transfer, decode,
+    AddOne, BitOp, Instr, JumpCond, Logic, MemOp, Mode, PhysicalOp, Reg, ShiftKind, ShiftReg,
+    SkipCond, Transfer, decode,
 };
 
 /// Text of a word, or `???` with the word if it is illegal.
@@ -80,6 +80,8 @@ pub fn disassemble(word: u16) -> String {
         Instr::Piof => "PIOF".to_string(),
         Instr::Pon => "PON".to_string(),
         Instr::Pion => "PION".to_string(),
+        Instr::Sex => "SEX".to_string(),
+        Instr::Rex => "REX".to_string(),
         Instr::Wait if word & 0o377 == 0 => "WAIT".to_string(),
         Instr::Wait => format!("WAIT {:o}", word & 0o377),
         Instr::Srb { level } => format!("SRB {:o}", level * 8),
@@ -88,6 +90,7 @@ pub fn disassemble(word: u16) -> String {
         Instr::Irr { level, reg } => join(&["IRR", &format!("{:o}", level * 8), &file_reg(reg)]),
         Instr::Exam => "EXAM".to_string(),
         Instr::Depo => "DEPO".to_string(),
+        Instr::Physical { op, disp } => format!("{} {:o}", physical_name(op), disp * 8),
         Instr::Iox { device } => format!("IOX {device:o}"),
         Instr::Ioxt => "IOXT".to_string(),
         Instr::Ident => match word & 0o77 {
@@ -158,6 +161,18 @@ fn mem_name(op: MemOp) -> &'static str {
         MemOp::Mpy => "MPY",
         MemOp::Jmp => "JMP",
         MemOp::Jpl => "JPL",
+    }
+}
+
+fn physical_name(op: PhysicalOp) -> &'static str {
+    match op {
+        PhysicalOp::Ldatx => "LDATX",
+        PhysicalOp::Ldxtx => "LDXTX",
+        PhysicalOp::Lddtx => "LDDTX",
+        PhysicalOp::Ldbtx => "LDBTX",
+        PhysicalOp::Statx => "STATX",
+        PhysicalOp::Stztx => "STZTX",
+        PhysicalOp::Stdtx => "STDTX",
     }
 }
 

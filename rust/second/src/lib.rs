@@ -25,8 +25,8 @@ pub mod vectors;
 
 pub use answer::{Interrupt, Reason, Refusal};
 pub use decode::{
-    AddOne, BitOp, Instr, JumpCond, Logic, MemOp, Mode, Reg, ShiftKind, ShiftReg, SkipCond,
-    Transfer, decode,
+    AddOne, BitOp, Instr, JumpCond, Logic, MemOp, Mode, PhysicalOp, Reg, ShiftKind, ShiftReg,
+    SkipCond, Transfer, decode,
 };
 pub use disasm::disassemble;
 pub use image::{IMAGE_EXTRA, Target, load, view, view_number, write};
@@ -36,6 +36,7 @@ pub use step::{next_word, raise, run, step};
 /// Words in a page.
 pub const PAGE: usize = 1024;
 /// Most words of lent memory.
-pub const MAX_MEMORY: usize = 524_288;
-/// Words of lent page tables: four tables of 64 entries.
-pub const TABLE_WORDS: usize = 256;
+pub const MAX_MEMORY: usize = 16_777_216;
+/// Words of lent page tables: four tables of 64 entries, two words each in
+/// extended mode. In 19-bit mode the first half is used.
+pub const TABLE_WORDS: usize = 512;

@@ -29,8 +29,9 @@ pub mod control {
     /// PCR of level 0; those of the other levels follow.
     pub const PCR: usize = 10;
     pub const PGS_HELD: usize = PCR + 16;
+    pub const EXTENDED: usize = PGS_HELD + 1;
     /// How many there are.
-    pub const WORDS: usize = PGS_HELD + 1;
+    pub const WORDS: usize = EXTENDED + 1;
 
     /// The name of a control word, as `PID` or `PCR(3)`.
     pub fn name(number: usize) -> String {
@@ -47,6 +48,7 @@ pub mod control {
             PGS => "PGS",
             PCR..PGS_HELD => return format!("PCR({})", number - PCR),
             PGS_HELD => "HELD",
+            EXTENDED => "EXTENDED",
             _ => return format!("control word {number}"),
         };
         name.to_string()
@@ -81,6 +83,8 @@ pub struct State {
     pub pcr: [u16; 16],
     /// 1 while PGS holds a fault that no TRA PGS has read.
     pub pgs_held: u16,
+    /// 1 in extended mode, with physical addresses of 24 bits; 0 in 19-bit mode.
+    pub extended: u16,
 }
 
 impl State {
@@ -105,6 +109,7 @@ impl State {
         control[control::PGS] = self.pgs;
         control[control::PCR..][..16].copy_from_slice(&self.pcr);
         control[control::PGS_HELD] = self.pgs_held;
+        control[control::EXTENDED] = self.extended;
         words
     }
 
@@ -125,6 +130,7 @@ impl State {
         state.pgs = control[control::PGS];
         state.pcr.copy_from_slice(&control[control::PCR..][..16]);
         state.pgs_held = control[control::PGS_HELD];
+        state.extended = control[control::EXTENDED];
         state
     }
 
@@ -141,6 +147,7 @@ impl State {
             && self.pgs & !PGS_BITS == 0
             && self.pcr.iter().all(|pcr| pcr & !PCR_BITS == 0)
             && self.pgs_held <= 1
+            && self.extended <= 1
     }
 
     /// Register of the running level.

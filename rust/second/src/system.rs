@@ -1,9 +1,9 @@
 //! Execution of the privileged instructions.
 
 use crate::answer::Interrupt;
-use crate::decode::{Instr, Reg, Transfer};
+use crate::decode::{Instr, PhysicalOp, Reg, Transfer};
 use crate::machine::Machine;
-use crate::paging::Table;
+use crate::paging::{Place, Table};
 use crate::state::{INTERNAL_BITS, PCR_BITS};
 
 /// Register order of SRB and LRB.
@@ -40,6 +40,8 @@ impl Machine<'_> {
                 self.state.interrupts_on = 1;
                 self.state.paging_on = 1;
             }
+            Instr::Sex => self.state.extended = 1,
+            Instr::Rex => self.state.extended = 0,
             Instr::Wait => self.wait(),
             Instr::Irr { level, reg } => {
                 let value = self.state.files[usize::from(level & 15)][reg as usize];
@@ -66,6 +68,7 @@ impl Machine<'_> {
                 let place = self.physical(self.long_address())?;
                 self.store(place, self.get(Reg::T));
             }
+            Instr::Physical { op, disp } => self.physical_transfer(op, disp)?,
             Instr::Iox { .. } | Instr::Ioxt | Instr::Ident => return Err(Interrupt::NoDevice),
             // `perform` hands over privileged instructions only.
             _ => return Err(Interrupt::Illegal),
@@ -87,8 +90,68 @@ impl Machine<'_> {
 
     /// Address of EXAM and DEPO.
     #[cfg_attr(feature = "inlined", inline(always))]
-    fn long_address(&self) -> usize {
-        usize::from(self.get(Reg::A)) << 16 | usize::from(self.get(Reg::D))
+    fn long_address(&self) -> u64 {
+        u64::from(self.get(Reg::A)) << 16 | u64::from(self.get(Reg::D))
+    }
+
+    /// LDATX and the six like it: all words are tested before the first takes
+    /// effect.
+    #[cfg_attr(feature = "inlined", inline(always))]
+    fn physical_transfer(&mut self, op: PhysicalOp, disp: u16) -> Result<(), Interrupt> {
+        let (a, d) = (self.get(Reg::A), self.get(Reg::D));
+        match op {
+            PhysicalOp::Ldatx => {
+                let [word] = self.physical_words(disp)?;
+                self.set(Reg::A, word);
+            }
+            PhysicalOp::Ldxtx => {
+                let [word] = self.physical_words(disp)?;
+                self.set(Reg::X, word);
+            }
+            PhysicalOp::Lddtx => {
+                let [first, second] = self.physical_words(disp)?;
+                self.set(Reg::A, first);
+                self.set(Reg::D, second);
+            }
+            PhysicalOp::Ldbtx => {
+                let [word] = self.physical_words(disp)?;
+                self.set(Reg::B, 0o177000 | word << 1);
+            }
+            PhysicalOp::Statx => self.store_physical(disp, [a])?,
+            PhysicalOp::Stztx => self.store_physical(disp, [0])?,
+            PhysicalOp::Stdtx => self.store_physical(disp, [a, d])?,
+        }
+        Ok(())
+    }
+
+    /// Places from T x 65,536 + X + displacement on; no carry is dropped.
+    #[cfg_attr(feature = "inlined", inline(always))]
+    fn physical_places<const N: usize>(&self, disp: u16) -> Result<[Place; N], Interrupt> {
+        let bank = u64::from(self.get(Reg::T)) << 16;
+        let first = bank + u64::from(self.get(Reg::X)) + u64::from(disp);
+        let mut places = [Place::Memory(0); N];
+        for (address, place) in (first..).zip(&mut places) {
+            *place = self.physical_or_table(address)?;
+        }
+        Ok(places)
+    }
+
+    #[cfg_attr(feature = "inlined", inline(always))]
+    fn physical_words<const N: usize>(&self, disp: u16) -> Result<[u16; N], Interrupt> {
+        Ok(self.physical_places(disp)?.map(|place| self.read(place)))
+    }
+
+    #[cfg_attr(feature = "inlined", inline(always))]
+    fn store_physical<const N: usize>(
+        &mut self,
+        disp: u16,
+        words: [u16; N],
+    ) -> Result<(), Interrupt> {
+        let places: [Place; N] = self.physical_places(disp)?;
+        for (place, word) in places.into_iter().zip(words) {
+            self.store(place, word);
+        }
+        Ok(())
     }
 
     #[cfg_attr(feature = "inlined", inline(always))]
@@ -110,6 +173,7 @@ impl Machine<'_> {
             Transfer::TraSts => {
                 let word = state.interrupts_on << 15
                     | state.paging_on << 14
+                    | state.extended << 13
                     | 1 << 12
                     | state.level << 8
                     | sts;

@@ -4,9 +4,7 @@ use crate::answer::Interrupt;
 use crate::decode::{Instr, Reg, decode};
 use crate::image::{IMAGE_EXTRA, write};
 use crate::random::Random;
-use crate::state::{
-    CONTROL_WORDS, INTERNAL_BITS, PCR_BITS, PGS_BITS, REGISTER_WORDS, STATE_WORDS, State, control,
-};
+use crate::state::{CONTROL_WORDS, INTERNAL_BITS, PCR_BITS, PGS_BITS, REGISTER_WORDS, State};
 use crate::step::step;
 use crate::{PAGE, TABLE_WORDS};
 use std::fmt::Write as _;
@@ -20,7 +18,7 @@ pub struct Start {
 }
 
 /// Base and mask of the bits that vary, one for each kind of instruction.
-const CLASSES: [(u16, u16); 91] = [
+const CLASSES: [(u16, u16); 97] = [
     (0o000000, 0o003777), // STZ
     (0o004000, 0o003777),
     (0o010000, 0o003777),
@@ -61,6 +59,10 @@ const CLASSES: [(u16, u16); 91] = [
     (0o142600, 0o000077), // SBYT
     (0o142600, 0o000077),
     (0o143200, 0o000077), // MIX3
+    (0o143300, 0o000077), // by T and X
+    (0o143300, 0o000077),
+    (0o143300, 0o000077),
+    (0o143300, 0o000077),
     (0o143600, 0o000077), // IDENT
     (0o144000, 0o000377), // SWAP
     (0o144400, 0o000377), // RAND
@@ -88,6 +90,8 @@ const CLASSES: [(u16, u16); 91] = [
     (0o150401, 0o000000), // IOF
     (0o150402, 0o000000), // ION
     (0o150404, 0o000001), // POF, PIOF
+    (0o150406, 0o000001), // SEX, REX
+    (0o150406, 0o000001),
     (0o150410, 0o000002), // PON, PION
     (0o150415, 0o000002), // IOXT, DEPO
     (0o150416, 0o000000), // EXAM
@@ -144,6 +148,7 @@ pub fn start(random: &mut Random) -> Start {
     tables(random, &mut start, &live, pages);
     let paging = start.state.paging_on == 1;
     let physical = (pages * PAGE) as u16;
+    let window = window(&start.state);
 
     for file in &mut start.state.files {
         for reg in file.iter_mut() {
@@ -158,18 +163,18 @@ pub fn start(random: &mut Random) -> Start {
         start.state.files[level][number] = match random.below(8) {
             0 | 1 => random.pick(&ENDS),
             2 => random.word(),
-            _ => address(random, &live, paging, physical),
+            _ => address(random, &live, window, paging, physical),
         };
     }
     start.state.files[level][0] = random.word() & 0o377;
     let mut p = match random.below(16) {
-        0 => 0o177400 + random.word() % 256,
+        0 => in_window(random, window),
         1 => random.word(),
         _ if paging => live[0] << 10 | offset(random),
         _ => random.word() % physical,
     };
     if paging && start.state.pcr[level] & 3 == 3 && random.one_in(8) {
-        p = 0o177400 + random.word() % 256;
+        p = in_window(random, window);
     }
     start.state.files[level][2] = p;
     if random.one_in(4) {
@@ -187,6 +192,18 @@ pub fn start(random: &mut Random) -> Start {
     }
     if matches!(decode(word), Instr::Exam | Instr::Depo) && !random.one_in(4) {
         start.state.files[level][5] = 0;
+    }
+    let executed = match decode(word) {
+        Instr::Exr {
+            src: Reg::T | Reg::X,
+        } => Instr::Illegal,
+        Instr::Exr { src } => decode(start.state.files[level][src as usize]),
+        instr => instr,
+    };
+    if let Instr::Physical { disp, .. } = executed
+        && !random.one_in(8)
+    {
+        physical_address(random, &mut start, disp);
     }
     if matches!(decode(word), Instr::Rdiv { .. }) && random.one_in(2) {
         // A dividend whose quotient may fit.
@@ -214,7 +231,7 @@ pub fn start(random: &mut Random) -> Start {
             let value = match random.below(4) {
                 0 => random.pick(&ENDS),
                 1 => random.word(),
-                _ => address(random, &live, paging, physical),
+                _ => address(random, &live, window, paging, physical),
             };
             put(&mut start, base.wrapping_add(further), value);
         }
@@ -222,13 +239,15 @@ pub fn start(random: &mut Random) -> Start {
     // Most fetches pass.
     let pcr = start.state.pcr[level];
     if paging && !random.one_in(8) {
-        let entry = &mut start.tables[usize::from((pcr >> 9 & 3) << 6 | p >> 10)];
+        let slot = usize::from((pcr >> 9 & 3) << 6 | p >> 10);
+        let entry = &mut start.tables[slot << start.state.extended];
         *entry |= 1 << 13;
         if *entry >> 9 & 3 > pcr & 3 {
             *entry = *entry & !(3 << 9) | (pcr & 3) << 9;
         }
-        if usize::from(*entry & 0o777) >= pages {
-            *entry &= !0o777;
+        if physical_page(&start, slot) >= pages {
+            let (at, bits) = page_of_entry(&start.state, slot);
+            start.tables[at] &= !bits;
         }
     }
     put_normal(&mut start, p, word);
@@ -246,8 +265,9 @@ fn control(random: &mut Random, state: &mut State) {
     state.iid = random.pick(&[0, words[0] & INTERNAL_BITS]);
     state.iie = random.pick(&[0, INTERNAL_BITS, words[1] & INTERNAL_BITS]);
     state.pgs = random.pick(&[0, words[2] & PGS_BITS]);
-    // By a bit that PGS has not: held or not, whatever it is.
+    // By bits that PGS has not: held or not, whatever it is; the mode.
     state.pgs_held = words[2] >> 8 & 1;
+    state.extended = words[2] >> 9 & 1;
     for pcr in &mut state.pcr {
         if random.one_in(4) {
             *pcr = random.word() & PCR_BITS;
@@ -266,8 +286,19 @@ fn control(random: &mut Random, state: &mut State) {
     }
 }
 
-/// Entries of the live pages in all four tables.
+/// Entries of the live pages in all four tables, in the form of the other mode
+/// first and over it in that of the mode.
 fn tables(random: &mut Random, start: &mut Start, live: &[u16], pages: usize) {
+    start.state.extended ^= 1;
+    entries(random, start, live, pages);
+    start.state.extended ^= 1;
+    entries(random, start, live, pages);
+    for _ in 0..random.below(4) {
+        start.tables[random.below(TABLE_WORDS as u64) as usize] = random.word();
+    }
+}
+
+fn entries(random: &mut Random, start: &mut Start, live: &[u16], pages: usize) {
     let ring = start.state.pcr[usize::from(start.state.level)] & 3;
     for table in 0..4 {
         for &page in live {
@@ -282,17 +313,90 @@ fn tables(random: &mut Random, start: &mut Start, live: &[u16], pages: usize) {
                 _ => ring,
             };
             let page_number = match random.below(16) {
-                0 => random.pick(&[pages as u16, 0o777, 0o400]),
+                0 => random.pick(&[pages as u16, 0o777, 0o400, 0o1000, 0o37777]),
                 _ => random.below(pages as u64) as u16,
             };
             let marks = random.pick(&[0, 0, 1, 2, 3]);
-            start.tables[usize::from(table << 6 | page)] =
-                permits << 13 | marks << 11 | entry_ring << 9 | page_number;
+            let slot = usize::from(table << 6 | page);
+            let word = permits << 13 | marks << 11 | entry_ring << 9;
+            set_entry(start, slot, word, page_number);
+            if start.state.extended == 1 {
+                let unused = random.pick(&[0, 0, 0o777, 0o140000, 0o40001]);
+                start.tables[2 * slot] |= unused & 0o777;
+                start.tables[2 * slot + 1] |= unused & 0o140000;
+            }
         }
     }
-    for _ in 0..random.below(4) {
-        start.tables[random.below(256) as usize] = random.word();
+}
+
+/// An entry in the form of the mode: permits, marks and ring, and the page.
+pub fn set_entry(start: &mut Start, slot: usize, word: u16, page: u16) {
+    if start.state.extended == 1 {
+        start.tables[2 * slot] = word;
+        start.tables[2 * slot + 1] = page;
+    } else {
+        start.tables[slot] = word | page & 0o777;
     }
+}
+
+/// First address of the page-table window.
+pub fn window(state: &State) -> u16 {
+    match state.extended {
+        0 => 0o177400,
+        _ => 0o177000,
+    }
+}
+
+pub fn in_window(random: &mut Random, window: u16) -> u16 {
+    window + random.below(0o200000 - u64::from(window)) as u16
+}
+
+/// The table word that has an entry's page, and the bits of it.
+fn page_of_entry(state: &State, slot: usize) -> (usize, u16) {
+    match state.extended {
+        0 => (slot, 0o777),
+        _ => (2 * slot + 1, 0o37777),
+    }
+}
+
+fn physical_page(start: &Start, slot: usize) -> usize {
+    let (at, bits) = page_of_entry(&start.state, slot);
+    usize::from(start.tables[at] & bits)
+}
+
+/// T and X that lead to memory, its end, the window or just about it; and words
+/// there to be read.
+pub fn physical_address(random: &mut Random, start: &mut Start, disp: u16) {
+    let size = start.memory.len() as u64;
+    let window = u64::from(window(&start.state));
+    let near = random.pick(&[0, 1, 2]);
+    let p = match random.below(10) {
+        0..4 => random.below(size),
+        4 => size - near,
+        5 => window - near,
+        6 => window + random.below(65_536 - window),
+        7 => 65_536 - near,
+        8 => random.pick(&[
+            0o176776, 0o177000, 0o177377, 0o177400, 65_536, 131_071, 524_288,
+        ]),
+        _ => random.pick(&[
+            16_777_215,
+            16_777_216,
+            1 << 31,
+            u64::from(u32::MAX),
+            1 << 32,
+        ]),
+    };
+    for further in 0..2 {
+        if let Some(word) = start.memory.get_mut((p + further) as usize) {
+            *word = random.word();
+        }
+    }
+    let file = &mut start.state.files[usize::from(start.state.level)];
+    // T and X hold what the displacement leaves, with the carry or without.
+    let base = p.saturating_sub(u64::from(disp)).min(u32::MAX.into());
+    file[Reg::T as usize] = (base >> 16) as u16;
+    file[Reg::X as usize] = base as u16;
 }
 
 /// An offset in a page, often near its edges.
@@ -303,14 +407,16 @@ fn offset(random: &mut Random) -> u16 {
     }
 }
 
-fn address(random: &mut Random, live: &[u16], paging: bool, physical: u16) -> u16 {
+fn address(random: &mut Random, live: &[u16], window: u16, paging: bool, physical: u16) -> u16 {
     match random.below(12) {
-        0 => 0o177400 + random.word() % 256,
+        0 => in_window(random, window),
         1 => random.pick(&[
+            0o176777,
+            0o177000,
             0o177377,
+            0o177400,
             0o177776,
             0o177777,
-            0o177400,
             physical - 1,
             physical,
         ]),
@@ -349,13 +455,14 @@ fn put_normal(start: &mut Start, address: u16, word: u16) {
 fn put_by(start: &mut Start, address: u16, table: u16, word: u16) {
     let pcr = start.state.pcr[usize::from(start.state.level)];
     let paging = start.state.paging_on == 1;
-    if address >= 0o177400 && (!paging || pcr & 3 == 3) {
-        start.tables[usize::from(address & 0o377)] = word;
+    let window = window(&start.state);
+    if address >= window && (!paging || pcr & 3 == 3) {
+        start.tables[usize::from(address - window)] = word;
         return;
     }
     let at = if paging {
-        let entry = start.tables[usize::from(table << 6 | address >> 10)];
-        usize::from(entry & 0o777) * PAGE + usize::from(address) % PAGE
+        let slot = usize::from(table << 6 | address >> 10);
+        physical_page(start, slot) * PAGE + usize::from(address) % PAGE
     } else {
         usize::from(address)
     };
@@ -372,14 +479,17 @@ pub fn image(start: &Start) -> Vec<u16> {
     image
 }
 
-/// The same as it was written before PGS was held: the control words end with the PCRs.
-pub fn older_image(start: &Start) -> Vec<u16> {
+/// The same as it was written before extended mode: fewer control words, 26
+/// before PGS was held and then 27, and page tables of 256.
+pub fn older_image(start: &Start, control_words: usize) -> Vec<u16> {
+    const OLDER_TABLES: usize = TABLE_WORDS / 2;
     let mut image = image(start);
-    // The third entry's length, low word.
-    image[15] = control::PGS_HELD as u16;
-    let bodies = image.len() - start.memory.len() - STATE_WORDS - TABLE_WORDS;
-    let words = bodies + start.memory.len() + REGISTER_WORDS;
-    image.drain(words + control::PGS_HELD..words + CONTROL_WORDS);
+    // Lengths of the third and the fourth entry, low words.
+    image[15] = control_words as u16;
+    image[20] = OLDER_TABLES as u16;
+    let tables = image.len() - TABLE_WORDS;
+    image.truncate(tables + OLDER_TABLES);
+    image.drain(tables - CONTROL_WORDS + control_words..tables);
     image
 }
 

@@ -1,7 +1,7 @@
 //! The vector generator reaches every instruction, mode, fault and change.
 
 use second::random::Random;
-use second::vectors::start;
+use second::vectors::{self, start};
 use second::*;
 use std::collections::HashSet;
 
@@ -59,27 +59,55 @@ fn vectors_reach_everything() {
             Instr::AddArg { reg, .. } => format!("add {reg:?}"),
             Instr::Bit { op, .. } => format!("{op:?}"),
             Instr::Transfer(transfer) => format!("{transfer:?}"),
+            Instr::Physical { op, disp } => {
+                let bank = u64::from(s.reg(Reg::T)) << 16;
+                let p = bank + u64::from(s.reg(Reg::X)) + u64::from(disp);
+                if number == 0 {
+                    let table = (u64::from(vectors::window(s))..0o200000).contains(&p);
+                    seen.insert(format!("{op:?} of tables {table}, mode {}", s.extended));
+                }
+                format!("{op:?}")
+            }
             other => {
                 let text = format!("{other:?}");
                 text.split([' ', '(']).next().unwrap_or("").to_string()
             }
         };
         seen.insert(format!("{name} = {number}"));
+        seen.insert(format!("{number} in mode {}", s.extended));
         let changed = |(new, old): (&u16, &u16)| (new ^ old) & !0o014000 != 0;
         if end.tables.iter().zip(&begin.tables).any(changed) {
-            seen.insert(format!("window write, paging {paging}"));
+            seen.insert(format!(
+                "window write, paging {paging}, mode {}",
+                s.extended
+            ));
         }
         let p = s.reg(Reg::P);
-        if p >= 0o177400 && (!paging || s.pcr[level] & 3 == 3) {
-            seen.insert("window fetch".into());
+        if p >= vectors::window(s) && (!paging || s.pcr[level] & 3 == 3) {
+            seen.insert(format!("window fetch, mode {}", s.extended));
+        }
+        if (0o177000..0o177400).contains(&p) && paging {
+            seen.insert(format!("fetch below the window, mode {}", s.extended));
         }
     }
-    let mut wanted: Vec<String> = vec!["stopped".into(), "level".into(), "window fetch".into()];
+    let mut wanted: Vec<String> = vec!["stopped".into(), "level".into()];
+    for mode in [0, 1] {
+        for number in [0, 2, 3, 4, 6, 9] {
+            wanted.push(format!("{number} in mode {mode}"));
+        }
+        wanted.push(format!("window fetch, mode {mode}"));
+        wanted.push(format!("fetch below the window, mode {mode}"));
+        wanted.push(format!("window write, paging false, mode {mode}"));
+        wanted.push(format!("window write, paging true, mode {mode}"));
+        for op in "Ldatx Ldxtx Lddtx Ldbtx Statx Stztx Stdtx".split(' ') {
+            wanted.push(format!("{op} of tables false, mode {mode}"));
+            wanted.push(format!("{op} of tables true, mode {mode}"));
+            wanted.push(format!("{op} = 9"));
+        }
+    }
     for number in [2, 3, 9] {
         wanted.push(format!("fetch {number}"));
     }
-    wanted.push("window write, paging false".into());
-    wanted.push("window write, paging true".into());
     // A fault taken and one not, TRA PGS, and 9 with PGS held and not.
     for held in ["(0, 1) by 2", "(0, 1) by 3", "(1, 1) by 2", "(1, 1) by 3"] {
         wanted.push(format!("held {held}"));
@@ -109,7 +137,8 @@ fn vectors_reach_everything() {
                  And OrComplement Or";
     let system = "TraSts TraPgs TraPvl TraIic TraPid TraPie TraActl TraPgc TrrSts TrrPcr TrrIie \
                   TrrPid TrrPie MclSts MclPid MclPie MstSts MstPid MstPie Iof Ion Pof Piof Pon \
-                  Pion Wait Srb Lrb Irw Irr Exam Depo";
+                  Pion Sex Rex Wait Srb Lrb Irw Irr Exam Depo Ldatx Ldxtx Lddtx Ldbtx Statx Stztx \
+                  Stdtx";
     for name in plain.split_whitespace().chain(system.split_whitespace()) {
         wanted.push(format!("{name} = 0"));
     }

@@ -8,12 +8,12 @@ fn counts() {
     let illegal = words()
         .filter(|&word| decode(word) == Instr::Illegal)
         .count();
-    // Floating 8192; 140000-143777 less 512 skips and 7 x 64; 256 - 19
-    // transfers; 256 - 9; NLZ and DNZ 512; 256 - 32; shifts 1024; 2048.
-    assert_eq!(illegal, 8192 + 1088 + 237 + 247 + 512 + 224 + 1024 + 2048);
+    // Floating 8192; 140000-143777 less 512 skips, 7 x 64 and 7 x 8 by T and X;
+    // 256 - 19 transfers; 256 - 11; NLZ and DNZ 512; 256 - 32; shifts 1024; 2048.
+    assert_eq!(illegal, 8192 + 1032 + 237 + 245 + 512 + 224 + 1024 + 2048);
     let privileged = words().filter(|&word| decode(word).privileged()).count();
-    // Transfers, nine codes, WAIT, SRB and LRB, IRW and IRR, IOX, IDENT.
-    assert_eq!(privileged, 19 + 9 + 256 + 32 + 256 + 2048 + 64);
+    // Transfers, eleven codes, WAIT, SRB and LRB, IRW and IRR, IOX, IDENT, by T and X.
+    assert_eq!(privileged, 19 + 11 + 256 + 32 + 256 + 2048 + 64 + 56);
     let memory = words()
         .filter(|&word| matches!(decode(word), Instr::Memory { .. }))
         .count();
@@ -52,15 +52,21 @@ fn ranges() {
         let lrb = matches!(decode(word), Instr::Lrb { .. });
         assert_eq!(lrb, word & 7 == 0);
     }
-    let nine = [0o01, 0o02, 0o04, 0o05, 0o10, 0o12, 0o15, 0o16, 0o17];
+    let codes = [
+        0o01, 0o02, 0o04, 0o05, 0o06, 0o07, 0o10, 0o12, 0o15, 0o16, 0o17,
+    ];
     for low in 0..256 {
         let legal = decode(0o150400 + low) != Instr::Illegal;
-        assert_eq!(legal, nine.contains(&low));
+        assert_eq!(legal, codes.contains(&low));
+    }
+    for word in 0o143300..=0o143377 {
+        let physical = matches!(decode(word), Instr::Physical { .. });
+        assert_eq!(physical, word & 7 != 7);
     }
     // LWCS, SINTRAN, decimal, stack, byte and word block codes.
     for word in [
-        0o143500, 0o143300, 0o140300, 0o140500, 0o140700, 0o140120, 0o140130, 0o140134, 0o143100,
-        0o140123, 0o140127, 0o140133, 0o150400, 0o150406, 0o150407,
+        0o143500, 0o143307, 0o140300, 0o140500, 0o140700, 0o140120, 0o140130, 0o140134, 0o143100,
+        0o140123, 0o140127, 0o140133, 0o150400, 0o150403, 0o150606,
     ] {
         assert_eq!(decode(word), Instr::Illegal, "{word:o}");
     }
@@ -91,6 +97,14 @@ fn fields() {
         reg: Reg::Sts,
     };
     assert_eq!(decode(0o153570), irw);
+    let physical = |op, disp| Instr::Physical { op, disp };
+    assert_eq!(decode(0o143320), physical(PhysicalOp::Ldatx, 2));
+    assert_eq!(decode(0o143371), physical(PhysicalOp::Ldxtx, 7));
+    assert_eq!(decode(0o143312), physical(PhysicalOp::Lddtx, 1));
+    assert_eq!(decode(0o143303), physical(PhysicalOp::Ldbtx, 0));
+    assert_eq!(decode(0o143344), physical(PhysicalOp::Statx, 4));
+    assert_eq!(decode(0o143355), physical(PhysicalOp::Stztx, 5));
+    assert_eq!(decode(0o143366), physical(PhysicalOp::Stdtx, 6));
 }
 
 #[test]
@@ -125,6 +139,14 @@ fn text() {
         (0o141670, "RDIV SX"),
         (0o142600, "SBYT"),
         (0o143200, "MIX3"),
+        (0o143300, "LDATX 0"),
+        (0o143301, "LDXTX 0"),
+        (0o143322, "LDDTX 20"),
+        (0o143313, "LDBTX 10"),
+        (0o143374, "STATX 70"),
+        (0o143345, "STZTX 40"),
+        (0o143306, "STDTX 0"),
+        (0o143307, "??? 143307"),
         (0o144351, "SWAP CM1 CLD SA DD"),
         (0o147061, "RADD ADC ST DD"),
         (0o147461, "RADD ADC AD1 ST DD"),
@@ -135,6 +157,8 @@ fn text() {
         (0o150402, "ION"),
         (0o150404, "POF"),
         (0o150405, "PIOF"),
+        (0o150406, "SEX"),
+        (0o150407, "REX"),
         (0o150410, "PON"),
         (0o150412, "PION"),
         (0o150415, "IOXT"),

@@ -202,9 +202,35 @@ fn turn_reads_the_first_fault() {
     let first = expected.replace("T 040002", "T 100123");
     assert_eq!(turn(&faulting(&pgs, &[0o100123, 1])), first);
     assert_eq!(turn(&faulting(&pgs, &[0o100123, 2])), "refused 2\n");
-    // The control words end with word 26.
-    assert_eq!(turn(&faulting(&[3, 0, 27, 0, 0], &[])), expected);
-    assert_eq!(turn(&faulting(&[3, 0, 27, 0, 1], &[0])), "refused 6\n");
+    // The control words end with word 27.
+    assert_eq!(turn(&faulting(&[3, 0, 28, 0, 0], &[])), expected);
+    assert_eq!(turn(&faulting(&[3, 0, 27, 0, 1], &[0])), expected);
+    assert_eq!(turn(&faulting(&[3, 0, 28, 0, 1], &[0])), "refused 6\n");
+}
+
+#[test]
+fn turn_in_extended_mode() {
+    // SEX or REX; TRA STS; WAIT. Kind 4 may name words 256 to 511.
+    for (word, a) in [(0o150406, "030000"), (0o150407, "010000")] {
+        let expected = format!(
+            "ended stopped\nsteps 3\nlevel 0\nSTS 000000\nD 000000\nP 000003\n\
+             B 000000\nL 000000\nA {a}\nT 000000\nX 000000\n"
+        );
+        let program = [word, 0o150001, 0o151000];
+        let mut image = vec![1, 1, 0, 0, 0, 3];
+        image.extend(program);
+        assert_eq!(turn(&bytes(&image)), expected);
+        let mut image = vec![2, 1, 0, 0, 0, 3, 4, 0, 511, 0, 1];
+        image.extend(program);
+        image.push(7);
+        assert_eq!(turn(&bytes(&image)), expected);
+    }
+    assert_eq!(turn(&bytes(&[1, 4, 0, 512, 0, 1, 7])), "refused 6\n");
+    assert_eq!(turn(&bytes(&[1, 3, 0, 27, 0, 1, 2])), "refused 2\n");
+    // SEX; LDATX 10 of table word 511, by X 177776; WAIT.
+    let mut image = vec![3, 1, 0, 0, 0, 3, 2, 0, 7, 0, 1, 4, 0, 511, 0, 1];
+    image.extend([0o150406, 0o143310, 0o151000, 0o177776, 0o4321]);
+    assert!(turn(&bytes(&image)).contains("A 004321\nT 000000\nX 177776\n"));
 }
 
 #[test]

@@ -105,13 +105,26 @@ fn load_about_the_last_control_word() {
         let state = try_load(&control_words(entries, 1)).0.expect("loads");
         assert_eq!(state.pgs_held, held, "{entries:?}");
     }
-    // 27 words there are.
+    // The same of word 27, the extended flag.
+    for (entries, extended) in [
+        (&[(0, 27)][..], 0),
+        (&[(0, 28)], 1),
+        (&[(27, 1)], 1),
+        (&[(26, 2)], 1),
+        (&[(0, 27), (27, 1)], 1),
+        (&[(27, 0), (28, 0), (27, 1)], 1),
+        (&[(27, 1), (0, 26)], 0),
+    ] {
+        let state = try_load(&control_words(entries, 1)).0.expect("loads");
+        assert_eq!(state.extended, extended, "{entries:?}");
+    }
+    // 28 words there are.
     for entries in [
-        &[(0, 28)][..],
-        &[(26, 2)],
-        &[(27, 1)],
-        &[(28, 0)],
-        &[(26, 1), (26, 2)],
+        &[(0, 29)][..],
+        &[(27, 2)],
+        &[(28, 1)],
+        &[(29, 0)],
+        &[(27, 1), (27, 2)],
     ] {
         refused(&control_words(entries, 1), Refusal::Beyond);
     }
@@ -120,6 +133,8 @@ fn load_about_the_last_control_word() {
         &[(26, 1), (26, 1)],
         &[(26, 1), (25, 2)],
         &[(26, 1), (0, 27)],
+        &[(0, 28), (27, 1)],
+        &[(27, 1), (26, 2)],
     ] {
         refused(&control_words(entries, 1), Refusal::Twice);
     }
@@ -136,21 +151,34 @@ fn load_about_the_last_control_word() {
         refused(&control_words(&[(0, 27)], held), Refusal::State);
         refused(&[1, 3, 0, 26, 0, 1, held, 0], Refusal::Bodies);
     }
+    for extended in [2, 3, 0o100001, 0o177777] {
+        refused(&[1, 3, 0, 27, 0, 1, extended], Refusal::State);
+        refused(&control_words(&[(0, 28)], extended), Refusal::State);
+        refused(&[1, 3, 0, 27, 0, 1, extended, 0], Refusal::Bodies);
+    }
 }
 
 #[test]
-fn images_of_twenty_six_control_words() {
+fn older_images() {
     let mut random = Random::new(26);
     let mut held = 0;
-    for _ in 0..100 {
+    for turn in 0..100 {
         let mut start = second::vectors::start(&mut random);
-        let image = second::vectors::older_image(&start);
-        assert_eq!(image[11..16], [3, 0, 0, 0, 26]);
-        assert_eq!(image.len(), start.memory.len() + 431);
-        let state = load(&image, &mut start.memory.clone(), &mut start.tables.clone());
+        let words = 26 + turn % 2;
+        let image = second::vectors::older_image(&start, words);
+        assert_eq!(image[11..16], [3, 0, 0, 0, words as u16]);
+        assert_eq!(image[16..21], [4, 0, 0, 0, 256]);
+        assert_eq!(image.len(), start.memory.len() + 405 + words);
+        let mut tables = start.tables.clone();
+        let state = load(&image, &mut start.memory.clone(), &mut tables);
         held += start.state.pgs_held;
-        start.state.pgs_held = 0;
+        if words == 26 {
+            start.state.pgs_held = 0;
+        }
+        start.state.extended = 0;
         assert_eq!(state, Ok(start.state));
+        assert_eq!(tables[..256], start.tables[..256]);
+        assert!(tables[256..].iter().all(|&word| word == 0));
     }
     assert!(held > 20);
 }
@@ -180,8 +208,8 @@ fn load_refuses_contents() {
 fn load_refuses_entries() {
     refused(&[1, 0, 0, 0, 0, 0], Refusal::Kind);
     refused(&[1, 5, 0, 0, 0, 0], Refusal::Kind);
-    // Sizes: 2,048 words of memory here, 128, 27, 256.
-    for (kind, size) in [(1, 2048), (2, 128), (3, 27), (4, 256)] {
+    // Sizes: 2,048 words of memory here, 128, 28, 512.
+    for (kind, size) in [(1, 2048), (2, 128), (3, 28), (4, 512)] {
         refused(&[1, kind, 0, size, 0, 1, 0], Refusal::Beyond);
         refused(&[1, kind, 0, 0, 0, size + 1, 0], Refusal::Beyond);
         refused(&[1, kind, 1, 0, 0, 0], Refusal::Beyond);
@@ -233,12 +261,13 @@ fn load_tests_entry_by_entry() {
 fn sizes_come_first() {
     let state = State::new();
     for (memory, tables) in [
-        (0, 256),
-        (1023, 256),
-        (1025, 256),
-        (524_288 + 1024, 256),
-        (1024, 255),
-        (1024, 257),
+        (0, 512),
+        (1023, 512),
+        (1025, 512),
+        (524_289, 512),
+        (1024, 256),
+        (1024, 511),
+        (1024, 513),
         (1024, 0),
     ] {
         let mut m = vec![5; memory];
@@ -258,10 +287,10 @@ fn sizes_come_first() {
         assert_eq!(s, before);
         assert!(m.iter().all(|&word| word == 5) && t.iter().all(|&word| word == 6));
     }
-    // The smallest and the largest memory.
-    for size in [1024, 524_288] {
+    // The smallest memory, and more than 19 bits reach; `extended.rs` has the largest.
+    for size in [1024, 524_288, 525_312] {
         let mut m = vec![0; size];
-        assert!(step(&mut state.clone(), &mut m, &mut [0; 256]).is_ok());
+        assert!(step(&mut state.clone(), &mut m, &mut [0; 512]).is_ok());
     }
 }
 
@@ -294,6 +323,7 @@ fn out_of_range() -> Vec<State> {
     }
     for held in [2, 3, 0o100000, 0o177777] {
         add(154, held); // whether PGS is held
+        add(155, held); // extended mode
     }
     states
 }
@@ -314,7 +344,7 @@ fn states_out_of_range() {
         assert_eq!(s, state);
         // A view does not look at the state; load finds it in the image.
         let words = state.to_words();
-        let mut image = vec![2, 2, 0, 0, 0, 128, 3, 0, 0, 0, 27];
+        let mut image = vec![2, 2, 0, 0, 0, 128, 3, 0, 0, 0, 28];
         image.extend(words);
         refused(&image, Refusal::State);
     }
@@ -328,6 +358,7 @@ fn states_out_of_range() {
         15, 1, 1, 1, 0o177777, 0o177777, 15, 0o3776, 0o3776, 0o140377,
     ]);
     words[154] = 1;
+    words[155] = 1;
     assert!(State::from_words(&words).in_range());
 }
 
@@ -372,40 +403,42 @@ fn a_raised_level_runs_after_the_next_step() {
 fn writes() {
     let mut case = Case::of(0o123).with(A, 5);
     case.m.truncate(PAGE);
-    case.t[255] = 9;
+    case.t[511] = 9;
     case.s.pcr[15] = 3;
     case.s.pgs_held = 1;
-    let mut out = vec![0o55; PAGE + 432 + 2];
-    assert_eq!(write(&case.s, &case.m, &case.t, &mut out), Ok(PAGE + 432));
+    let mut out = vec![0o55; PAGE + 689 + 2];
+    assert_eq!(write(&case.s, &case.m, &case.t, &mut out), Ok(PAGE + 689));
     assert_eq!(
         out[..21],
         [
-            4, 1, 0, 0, 0, 1024, 2, 0, 0, 0, 128, 3, 0, 0, 0, 27, 4, 0, 0, 0, 256
+            4, 1, 0, 0, 0, 1024, 2, 0, 0, 0, 128, 3, 0, 0, 0, 28, 4, 0, 0, 0, 512
         ]
     );
     assert_eq!(out[21 + 0o100], 0o123); // memory
     assert_eq!(out[21 + 1024 + 5], 5); // A of level 0
     assert_eq!(out[21 + 1024 + 128 + 25], 3); // PCR of level 15
     assert_eq!(out[21 + 1024 + 128 + 26], 1); // PGS is held
-    assert_eq!(out[21 + 1024 + 128 + 27 + 255], 9); // last table word
-    assert_eq!(out[PAGE + 432..], [0o55, 0o55]);
-    // Just enough; and not held.
+    assert_eq!(out[21 + 1024 + 128 + 27], 0); // 19-bit mode
+    assert_eq!(out[21 + 1024 + 128 + 28 + 511], 9); // last table word
+    assert_eq!(out[PAGE + 689..], [0o55, 0o55]);
+    // Just enough; not held, in extended mode.
     case.s.pgs_held = 0;
-    let mut out = vec![0o55; PAGE + 432];
-    assert_eq!(write(&case.s, &case.m, &case.t, &mut out), Ok(PAGE + 432));
-    assert_eq!(out[21 + 1024 + 128 + 26], 0);
+    case.s.extended = 1;
+    let mut out = vec![0o55; PAGE + 689];
+    assert_eq!(write(&case.s, &case.m, &case.t, &mut out), Ok(PAGE + 689));
+    assert_eq!(out[21 + 1024 + 128 + 26..][..2], [0, 1]);
     // One word short: 10, and nothing is written.
-    let mut out = vec![0o55; PAGE + 431];
+    let mut out = vec![0o55; PAGE + 688];
     assert_eq!(
         write(&case.s, &case.m, &case.t, &mut out),
         Err(Refusal::Short)
     );
     assert!(out.iter().all(|&word| word == 0o55));
     // A long memory's length takes both words.
-    let mut out = vec![0; 524_288 + 432];
+    let mut out = vec![0; 524_288 + 689];
     assert_eq!(
         write(&case.s, &vec![0; 524_288], &case.t, &mut out),
-        Ok(524_720)
+        Ok(524_977)
     );
     assert_eq!(out[..6], [4, 1, 0, 0, 8, 0]);
 }
@@ -430,7 +463,7 @@ fn write_then_load() {
 #[test]
 fn views() {
     let memory: Vec<u16> = (0..1024).collect();
-    let tables: Vec<u16> = (2000..2256).collect();
+    let tables: Vec<u16> = (2000..2512).collect();
     let see = |target, start, length| {
         let refusal = view_number(&memory, &tables, target, start, length);
         (
@@ -442,14 +475,14 @@ fn views() {
     assert_eq!(see(Target::Memory, 1023, 1), (vec![1023], None));
     assert_eq!(see(Target::Memory, 0, 1024).0, memory);
     assert_eq!(see(Target::Memory, 1024, 0), (vec![], None));
-    assert_eq!(see(Target::Tables, 255, 1), (vec![2255], None));
-    assert_eq!(see(Target::Tables, 0, 256).0, tables);
+    assert_eq!(see(Target::Tables, 511, 1), (vec![2511], None));
+    assert_eq!(see(Target::Tables, 0, 512).0, tables);
     for (target, start, length) in [
         (Target::Memory, 1024, 1),
         (Target::Memory, 1023, 2),
         (Target::Memory, 1025, 0),
-        (Target::Tables, 256, 1),
-        (Target::Tables, 257, 0),
+        (Target::Tables, 512, 1),
+        (Target::Tables, 513, 0),
         (Target::Tables, usize::MAX, 1),
         (Target::Memory, 1, usize::MAX),
     ] {

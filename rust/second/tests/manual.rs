@@ -29,8 +29,9 @@ fn floating() {
 
 /// The disassembler's text where a manual writes the instruction otherwise, or
 /// slips.
-const OTHERWISE: [(u16, &str); 31] = [
+const OTHERWISE: [(u16, &str); 32] = [
     (0o044774, "LDA ,B -4"),
+    (0o143320, "LDATX 20"),
     (0o135403, "JPL I ,B 3"),
     (0o006002, "STA ,X 2"),
     (0o046401, "LDA ,X ,B 1"),

@@ -276,7 +276,7 @@ fn register_blocks_test_all_eight() {
     let mut case = Case::of(0o152412).with(X, 0o177774);
     case.s.files[1] = [1, 2, 3, 4, 5, 6, 7, 8];
     let case = case.ok();
-    assert_eq!(case.t[252..], [3, 8, 7, 6]); // P X T A
+    assert_eq!(case.t[252..256], [3, 8, 7, 6]); // P X T A
     assert_eq!(case.m[..4], [2, 5, 1, 4]); // D L STS B
 }
 
@@ -285,14 +285,15 @@ fn order_of_illegal_privileged_and_access() {
     // TRA of a number not served: 4 on every ring.
     for ring in 0..4 {
         Case::paged(0o150000, ring).gives(4).has(&[(P, 0o101)]);
-        Case::paged(0o150406, ring).gives(4); // SEX
+        Case::paged(0o150403, ring).gives(4);
     }
     // Privileged codes on rings 0 and 1.
     let words = [
-        0o150401, 0o150402, 0o150404, 0o150405, 0o150410, 0o150412, 0o150415, 0o150416, 0o150417,
-        0o151000, 0o150001, 0o150003, 0o150004, 0o150005, 0o150006, 0o150007, 0o150011, 0o150014,
-        0o150101, 0o150103, 0o150105, 0o150106, 0o150107, 0o150201, 0o150206, 0o150207, 0o150301,
-        0o150306, 0o150307, 0o152402, 0o152600, 0o153400, 0o153600, 0o164000, 0o167777, 0o143604,
+        0o150401, 0o150402, 0o150404, 0o150405, 0o150406, 0o150407, 0o150410, 0o150412, 0o150415,
+        0o150416, 0o150417, 0o151000, 0o150001, 0o150003, 0o150004, 0o150005, 0o150006, 0o150007,
+        0o150011, 0o150014, 0o150101, 0o150103, 0o150105, 0o150106, 0o150107, 0o150201, 0o150206,
+        0o150207, 0o150301, 0o150306, 0o150307, 0o152402, 0o152600, 0o153400, 0o153600, 0o164000,
+        0o167777, 0o143604,
     ];
     for word in words {
         for ring in [0, 1] {

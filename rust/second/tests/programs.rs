@@ -52,7 +52,7 @@ fn vectors_read_back() {
         assert_eq!(fields(&mut lines, "int"), [given.to_string()]);
         let mut all: Vec<u16> = fields(&mut lines, "reg=").into_iter().map(octal).collect();
         all.extend(fields(&mut lines, "ctl=").into_iter().map(octal));
-        assert_eq!(all.len(), 128 + 27);
+        assert_eq!(all.len(), 128 + 28);
         assert_eq!(all, after.state.to_words());
         put(&mut read.memory, &fields(&mut lines, "mem+"));
         put(&mut read.tables, &fields(&mut lines, "tab+"));

@@ -155,9 +155,13 @@ fn permitted(start: &second::vectors::Start, write: bool) -> Vec<bool> {
     let mut pages = vec![false; start.memory.len() / PAGE];
     for table in [pcr >> 9 & 3, pcr >> 7 & 3] {
         for page in 0..64 {
-            let entry = start.tables[usize::from(table << 6 | page)];
+            let slot = usize::from(table << 6 | page);
+            let (entry, physical) = match start.state.extended {
+                0 => (start.tables[slot], start.tables[slot] & 0o777),
+                _ => (start.tables[2 * slot], start.tables[2 * slot + 1] & 0o37777),
+            };
             let some = entry >> 13 != 0 && entry >> 9 & 3 <= pcr & 3;
-            let physical = usize::from(entry & 0o777);
+            let physical = usize::from(physical);
             if some && (!write || entry >> 15 == 1) && physical < pages.len() {
                 pages[physical] = true;
             }

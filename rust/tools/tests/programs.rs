@@ -57,7 +57,7 @@ fn trace_of_the_turn_example() {
         vec!["0", "000002", "151000", "WAIT", "STOPPED=000001"],
     ];
     assert_eq!(trace(&[], &ADD), wanted);
-    assert_eq!(trace(&["18446744073709551615", "512"], &ADD), wanted);
+    assert_eq!(trace(&["18446744073709551615", "16384"], &ADD), wanted);
     assert_eq!(trace(&["2", "1"], &ADD), wanted[..2]);
     assert_eq!(trace(&["0"], &ADD), wanted[..0]);
 }
@@ -107,6 +107,26 @@ fn trace_of_two_faults() {
     assert_eq!(trace(&[], &image), wanted);
 }
 
+/// SEX with paging off, STATX of the entry of page 0, and TRA STS with the flag in bit 13.
+#[test]
+fn trace_of_extended_mode() {
+    let image = [
+        2, // memory 0 to 3; A and X
+        1, 0, 0, 0, 4, //
+        2, 0, 5, 0, 3, //
+        0o150406, 0o143314, 0o150001, 0o151000, //
+        0o162000, 0, 0o176777,
+    ];
+    let wanted = [
+        "0 000000 150406 SEX EXTENDED=000001",
+        "0 000001 143314 STATX 10",
+        "0 000002 150001 TRA STS A=030000",
+        "0 000003 151000 WAIT STOPPED=000001",
+    ]
+    .map(|line| line.split(' ').map(str::to_string).collect::<Vec<_>>());
+    assert_eq!(trace(&[], &image), wanted);
+}
+
 #[test]
 fn trace_refuses() {
     fails(TRACE, &[], &[], "refused 4");
@@ -114,7 +134,7 @@ fn trace_refuses() {
     fails(TRACE, &["x"], &[], "STEPS");
     fails(TRACE, &["-1"], &[], "STEPS");
     fails(TRACE, &["18446744073709551616"], &[], "STEPS");
-    for pages in ["", "0", "513", "99999999999999", "18014398509481984"] {
+    for pages in ["", "0", "16385", "99999999999999", "18014398509481984"] {
         fails(TRACE, &["1", pages], &[], "PAGES");
     }
     fails(TRACE, &["1", "1", "1"], &[], "one word too many");

@@ -2,7 +2,7 @@
 
 use second::random::Random;
 use second::vectors::{image, instruction, older_image, start};
-use second::{CONTROL_WORDS, REGISTER_WORDS, TABLE_WORDS};
+use second::{CONTROL_WORDS, REGISTER_WORDS, TABLE_WORDS, control};
 use std::collections::BTreeMap;
 use std::ffi::OsStr;
 use std::io::{self, Write};
@@ -30,7 +30,8 @@ fn machine(random: &mut Random) -> Vec<u16> {
         start.memory.fill_with(|| instruction(random));
     }
     if random.one_in(4) {
-        older_image(&start)
+        let words = random.pick(&[control::PGS_HELD, control::EXTENDED]);
+        older_image(&start, words)
     } else {
         image(&start)
     }

@@ -39,23 +39,23 @@ pub fn operations() -> Vec<Operation> {
 /// Refusal 1, alone and before all others.
 fn sizes(cases: &mut Vec<Case>) {
     let sizes = [
-        (0, 256),
-        (1, 256),
-        (1023, 256),
-        (1024, 256),
-        (1025, 256),
-        (2048, 256),
-        (3000, 256),
+        (0, 512),
+        (1, 512),
+        (1023, 512),
+        (1024, 512),
+        (1025, 512),
+        (2048, 512),
+        (3000, 512),
         (4096, 0),
-        (4096, 255),
-        (4096, 257),
-        (4096, 512),
+        (4096, 256),
+        (4096, 511),
+        (4096, 513),
         (0, 0),
     ];
     for (memory, tables) in sizes {
         for operation in operations() {
             cases.push(Case::sized("size", operation.clone(), memory, tables));
-            if memory % PAGE != 0 || tables != 256 {
+            if memory % PAGE != 0 || tables != TABLE_WORDS {
                 let case = Case::sized("size", operation, memory, tables);
                 cases.push(case.with(|state| state.level = 16));
             }
@@ -70,7 +70,7 @@ fn sizes(cases: &mut Vec<Case>) {
             cases.push(Case::sized("size", operation, memory, tables));
         }
     }
-    // The largest memory, and one page more.
+    // As much memory as 19 bits reach, and one page more.
     for memory in [512 * PAGE, 513 * PAGE] {
         for operation in [
             Operation::Step,
@@ -78,9 +78,9 @@ fn sizes(cases: &mut Vec<Case>) {
             Operation::Raise(10),
             Operation::Load(vec![1, 1, 7, 0o177777, 0, 1, 5]),
         ] {
-            cases.push(Case::sized("size", operation, memory, 256));
+            cases.push(Case::sized("size", operation, memory, TABLE_WORDS));
         }
-        let case = Case::sized("size", Operation::Step, memory, 256).reg(Reg::A, 7);
+        let case = Case::sized("size", Operation::Step, memory, TABLE_WORDS).reg(Reg::A, 7);
         cases.push(
             case.reg(Reg::D, 0o177777)
                 .paging(false)
@@ -92,7 +92,7 @@ fn sizes(cases: &mut Vec<Case>) {
 
 /// Refusal 2: each word of the state just inside and just outside its range.
 fn states(cases: &mut Vec<Case>) {
-    let ends: [(usize, &[u16]); 11] = [
+    let ends: [(usize, &[u16]); 12] = [
         (0, &[15, 16, 0o100003]),
         (1, &[0, 1, 2, 0o177777]),
         (2, &[0, 1, 2, 0o100000]),
@@ -104,6 +104,7 @@ fn states(cases: &mut Vec<Case>) {
         (8, &[0o3776, 1, 0o4000, 0o100000, 0]),
         (9, &[0o140377, 0o400, 0o20000, 0o1000, 0o40000]),
         (control::PGS_HELD, &[0, 1, 2, 0o100001]),
+        (control::EXTENDED, &[0, 1, 2, 0o100001]),
     ];
     let mut words: Vec<(usize, u16)> = Vec::new();
     for (index, values) in ends {
@@ -185,7 +186,7 @@ pub fn load(words: Vec<u16>) -> Case {
 }
 
 fn loads(cases: &mut Vec<Case>) {
-    let sound: [&[(u16, u32, u32)]; 15] = [
+    let sound: [&[(u16, u32, u32)]; 16] = [
         &[],
         &[(1, 0, 5)],
         &[(1, 4091, 5)],
@@ -193,6 +194,7 @@ fn loads(cases: &mut Vec<Case>) {
         &[(3, 0, CONTROL - 1)],
         &[(3, 0, CONTROL)],
         &[(4, 0, 256)],
+        &[(4, 0, 512)],
         &[(4, 250, 6), (1, 9, 2), (3, 4, 2), (2, 17, 3)],
         &[(1, 10, 5), (1, 15, 5), (1, 5, 5)],
         &[(1, 10, 5), (2, 10, 5), (3, 10, 5), (4, 10, 5)],
@@ -202,7 +204,7 @@ fn loads(cases: &mut Vec<Case>) {
             (1, 4096, 0),
             (2, 128, 0),
             (3, CONTROL, 0),
-            (4, 256, 0),
+            (4, 512, 0),
         ],
         &[(1, 12, 0), (1, 10, 5)],
         &[(2, 1, 1), (1, 0, 1), (2, 2, 1), (1, 1, 1)],
@@ -272,9 +274,9 @@ fn damaged(cases: &mut Vec<Case>) {
         &[(3, CONTROL, 1)],
         &[(3, CONTROL - 1, 2)],
         &[(3, CONTROL + 1, 0)],
-        &[(4, 256, 1)],
-        &[(4, 255, 2)],
-        &[(4, 257, 0)],
+        &[(4, 512, 1)],
+        &[(4, 511, 2)],
+        &[(4, 513, 0)],
         &[(1, 0x10000, 1)],
         &[(1, 0xffff_ffff, 1)],
         &[(1, 0xffff_ffff, 2)],
@@ -330,8 +332,9 @@ fn damaged(cases: &mut Vec<Case>) {
 
 fn writes(cases: &mut Vec<Case>) {
     for memory in [PAGE, 2 * PAGE, MEMORY] {
-        for extra in [0, 1, EXTRA - 1, EXTRA, EXTRA + 1, 500] {
-            let case = Case::sized("write", Operation::Write(memory + extra), memory, 256);
+        for extra in [0, 1, EXTRA - 1, EXTRA, EXTRA + 1, 800] {
+            let operation = Operation::Write(memory + extra);
+            let case = Case::sized("write", operation, memory, TABLE_WORDS);
             cases.push(case.with(|state| state.pgs = 0o140377));
         }
     }
@@ -366,13 +369,27 @@ fn views(cases: &mut Vec<Case>) {
             255,
             256,
             257,
+            511,
+            512,
+            513,
             4095,
             4096,
             4097,
             usize::MAX,
             usize::MAX - 1,
         ] {
-            for length in [0, 1, 2, 156, 256, 4096, 4097, usize::MAX, usize::MAX - 254] {
+            for length in [
+                0,
+                1,
+                2,
+                256,
+                412,
+                512,
+                4096,
+                4097,
+                usize::MAX,
+                usize::MAX - 510,
+            ] {
                 cases.push(Case::new("view", Operation::View(target, start, length)));
             }
         }

@@ -1,6 +1,7 @@
 //! Cases of every operation for the proved engine: `crates/check_*` run them,
 //! and their stored answers are this engine's. `NOTES.md` has the format.
 
+mod extended;
 mod fetches;
 mod floating;
 mod held;
@@ -26,7 +27,7 @@ pub type Lines = (String, String);
 type Group = (&'static str, fn() -> Vec<Lines>);
 
 /// The programs `crates/check_NAME`, each with its groups of cases.
-pub const PROGRAMS: [(&str, &[Group]); 4] = [
+pub const PROGRAMS: [(&str, &[Group]); 5] = [
     (
         "instructions",
         &[
@@ -52,6 +53,18 @@ pub const PROGRAMS: [(&str, &[Group]); 4] = [
             ("images", || lines(&images::cases())),
             ("words", || lines(&words::cases())),
             ("first faults", || lines(&held::operations_cases())),
+        ],
+    ),
+    (
+        "extended",
+        &[
+            ("modes", || lines(&extended::mode())),
+            ("physical", || lines(&extended::physical())),
+            ("entries", || lines(&extended::entries())),
+            ("window", || lines(&extended::window())),
+            ("operations", || lines(&extended::operations())),
+            ("runs", || lines(&extended::runs())),
+            ("random", || lines(&extended::random())),
         ],
     ),
     (
@@ -98,6 +111,8 @@ pub const MEMORY: usize = 4 * PAGE;
 pub struct Case {
     label: &'static str,
     pub operation: Operation,
+    /// Whether it is told by what differs from the extended base machine.
+    extended: bool,
     pub state: State,
     pub memory: Vec<u16>,
     pub tables: Vec<u16>,
@@ -113,8 +128,8 @@ const BEFORE_PCR: [u16; control::PCR] = [LEVEL as u16, 1, 1, 0, 8, 0o177777, 5, 
 const FIRST_PCR: usize = REGISTER_WORDS + control::PCR;
 const LAST_PCR: usize = FIRST_PCR + 15;
 
-/// Registers and control words of the base machine. Its PGS is 0 and not held.
-fn base_state() -> [u16; STATE_WORDS] {
+/// Registers and control words of a base machine. Its PGS is 0 and not held.
+fn base_state(extended: bool) -> [u16; STATE_WORDS] {
     let mut words = [0; STATE_WORDS];
     for (index, word) in words.iter_mut().enumerate() {
         *word = match index {
@@ -125,6 +140,7 @@ fn base_state() -> [u16; STATE_WORDS] {
         };
     }
     words[REGISTER_WORDS..FIRST_PCR].copy_from_slice(&BEFORE_PCR);
+    words[REGISTER_WORDS + control::EXTENDED] = extended.into();
     words
 }
 
@@ -132,24 +148,43 @@ fn base_memory(size: usize) -> Vec<u16> {
     (0..size).map(pattern).collect()
 }
 
-/// Every access permitted to ring 2; pages in another order in each table.
-fn base_tables(size: usize, memory: usize) -> Vec<u16> {
-    let entry = |index: usize| match memory / PAGE {
-        0 => 0,
-        pages => (0o162000 + (index % 64 + index / 64 % 4) % pages % 512) as u16,
+/// Every access permitted to ring 2.
+const OPEN: u16 = 0o162000;
+
+/// Open entries; pages in another order in each table.
+fn base_tables(size: usize, memory: usize, extended: bool) -> Vec<u16> {
+    let pages = memory / PAGE;
+    let page = |slot: usize| ((slot % 64 + slot / 64 % 4) % pages) as u16;
+    let word = |index: usize| match (pages, extended) {
+        (0, _) => 0,
+        (_, false) => OPEN + page(index) % 512,
+        (_, true) if index.is_multiple_of(2) => OPEN,
+        (_, true) => page(index / 2),
     };
-    (0..size).map(entry).collect()
+    (0..size).map(word).collect()
 }
 
 impl Case {
-    /// The base machine with lent words of other sizes.
+    /// The base machine, in 19-bit mode, with lent words of other sizes.
     pub fn sized(label: &'static str, operation: Operation, memory: usize, tables: usize) -> Case {
+        Case::in_mode(false, label, operation, memory, tables)
+    }
+
+    /// The base machine of either mode.
+    pub fn in_mode(
+        extended: bool,
+        label: &'static str,
+        operation: Operation,
+        memory: usize,
+        tables: usize,
+    ) -> Case {
         Case {
             label,
             operation,
-            state: State::from_words(&base_state()),
+            extended,
+            state: State::from_words(&base_state(extended)),
             memory: base_memory(memory),
-            tables: base_tables(tables, memory),
+            tables: base_tables(tables, memory, extended),
         }
     }
 
@@ -224,22 +259,38 @@ impl Case {
         })
     }
 
-    /// Index of the entry that an address goes by.
+    /// The slot of the entry that an address goes by; in 19-bit mode its index.
     pub fn index(&self, address: u16, alternate: bool) -> usize {
         self.table(alternate) * 64 + usize::from(address >> 10)
+    }
+
+    /// First address of the page-table window.
+    pub fn window(&self) -> u16 {
+        match self.state.extended {
+            0 => 0o177400,
+            _ => 0o177000,
+        }
+    }
+
+    /// The physical page of an entry.
+    pub fn physical_page(&self, slot: usize) -> usize {
+        usize::from(match self.state.extended {
+            0 => self.tables[slot] & 0o777,
+            _ => self.tables[2 * slot + 1] & 0o37777,
+        })
     }
 
     /// Puts a word where an address leads, if it leads somewhere.
     pub fn put(mut self, address: u16, alternate: bool, value: u16) -> Case {
         let paging = self.state.paging_on == 1;
         let ring = self.state.pcr[self.level()] & 3;
-        if address >= 0o177400 && (!paging || ring == 3) {
-            self.tables[usize::from(address & 0o377)] = value;
+        let window = self.window();
+        if address >= window && (!paging || ring == 3) {
+            self.tables[usize::from(address - window)] = value;
             return self;
         }
         let at = if paging {
-            let entry = self.tables[self.index(address, alternate)];
-            usize::from(entry & 0o777) * PAGE + usize::from(address) % PAGE
+            self.physical_page(self.index(address, alternate)) * PAGE + usize::from(address) % PAGE
         } else {
             usize::from(address)
         };
@@ -275,6 +326,7 @@ impl Case {
     /// The case's line: label, count, operation, sizes, arguments, changes.
     pub fn line(&self) -> String {
         let (number, arguments) = self.arguments();
+        let number = number + if self.extended { 8 } else { 0 };
         let sizes = [self.memory.len() as u64, self.tables.len() as u64];
         let mut numbers = vec![number, sizes[0], sizes[1], arguments.len() as u64];
         numbers.extend(arguments);
@@ -285,12 +337,9 @@ impl Case {
                 }
             }
         };
-        change(0, &self.state.to_words(), &base_state());
-        change(
-            512,
-            &self.tables,
-            &base_tables(self.tables.len(), self.memory.len()),
-        );
+        change(0, &self.state.to_words(), &base_state(self.extended));
+        let tables = base_tables(self.tables.len(), self.memory.len(), self.extended);
+        change(512, &self.tables, &tables);
         change(1024, &self.memory, &base_memory(self.memory.len()));
         let mut text = format!("{} {:o}", self.label, numbers.len());
         for number in numbers {
@@ -355,7 +404,7 @@ impl Case {
             Operation::WriteLoad(length) => {
                 let mut out = base_memory(*length);
                 let written = write(state, memory, tables, &mut out).err();
-                *memory = base_tables(memory.len(), PAGE);
+                *memory = base_tables(memory.len(), PAGE, false);
                 *tables = base_memory(tables.len());
                 *state = State::new();
                 let loaded = load(&out, memory, tables);

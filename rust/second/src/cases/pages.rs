@@ -2,7 +2,7 @@
 
 use super::{Case, Operation};
 use crate::decode::Reg;
-use crate::{MAX_MEMORY, TABLE_WORDS};
+use crate::{PAGE, TABLE_WORDS};
 
 /// Bits of an entry.
 const PERMITS: u16 = 0o160000;
@@ -165,10 +165,10 @@ fn permits(cases: &mut Vec<Case>) {
             cases.push(meets("beyond", usage, PERMITS | 2 << 9 | 1 << bit, 2));
         }
     }
-    // Pages of the largest memory.
+    // Pages as far as 19 bits reach.
     for page in [0o777, 0o400, 0o377, 0o252] {
         for word in [0o046000, 0o006000] {
-            let case = Case::sized("far", Operation::Step, MAX_MEMORY, TABLE_WORDS);
+            let case = Case::sized("far", Operation::Step, 512 * PAGE, TABLE_WORDS);
             let case = case.reg(Reg::P, 0o10600).reg(Reg::X, 0o24501).at_p(word);
             let index = case.index(0o24501, false);
             cases.push(case.entry(index, PERMITS | 2 << 9 | page));
