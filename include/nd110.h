@@ -8,10 +8,10 @@
  * under "What cannot be seen".
  *
  * Lent words
- *   state    ND110_STATE_WORDS words in image order, 128 registers and 27 control words: register n of level l is word
+ *   state    ND110_STATE_WORDS words in image order, 128 registers and 28 control words: register n of level l is word
  *            8 * l + n, control word n is word 128 + n
- *   memory   1,024 to 524,288 words, a multiple of 1,024
- *   tables   ND110_TABLE_WORDS words: four page tables of 64 entries
+ *   memory   1,024 to 16,777,216 words, a multiple of 1,024, in 19-bit and in extended mode
+ *   tables   ND110_TABLE_WORDS words, in either mode: four page tables of 64 entries
  *   Each is handed in as a place and its length in words, but for a record, which is a place alone. The engine keeps
  *   nothing between calls and allocates nothing: a machine is these three, they belong to the caller, and the caller
  *   may read and write them between calls.
@@ -20,6 +20,14 @@
  *   nd110_state names the same ND110_STATE_WORDS words in the same order, with nothing between them: a record and the
  *   state words of the other functions are one and the same words. The functions whose names end in _lent take a
  *   pointer to a record, which has its size by its type; the others take ND110_WORDS(&record).
+ *
+ * The page tables by mode (control word ND110_EXTENDED: 0 in 19-bit mode, 1 in extended mode)
+ *   The entry of virtual page v in table t has slot s = 64 * t + v.
+ *   19-bit     one word, tables[s]: bit 15 write, 14 read, 13 fetch permitted, 12 WIP, 11 PGU, 10-9 ring, 8-0 physical
+ *              page. tables[256] to tables[511] are not used, and stay
+ *   extended   two words: tables[2 * s] has bits 15-9 as above, tables[2 * s + 1] the physical page in bits 13-0
+ *   SEX, REX and a host's store to ND110_EXTENDED change the mode and no table word: from then on the same words are
+ *   read in the other form.
  *
  * What can be seen, and is refused: every length; every word of the state; every word of an image; the level of a
  * raise; the kind, start and length of a view, sums that would wrap included; every word of a number to be converted.
@@ -47,14 +55,14 @@ extern "C" {
 #endif
 
 /* The version of this interface; docs/HOST.md tells what each changed. */
-#define ND110_VERSION 3
+#define ND110_VERSION 4
 
 /* Sizes, in words. An image that nd110_write makes has memory + ND110_IMAGE_EXTRA words. */
-#define ND110_STATE_WORDS 155
-#define ND110_TABLE_WORDS 256
+#define ND110_STATE_WORDS 156
+#define ND110_TABLE_WORDS 512
 #define ND110_PAGE_WORDS 1024
-#define ND110_MEMORY_MOST 524288
-#define ND110_IMAGE_EXTRA 432
+#define ND110_MEMORY_MOST 16777216
+#define ND110_IMAGE_EXTRA 689
 
 /* Words of the floating forms: A D of the short one, 32 bits, and T A D of the long one, 48 bits. */
 #define ND110_SHORT_WORDS 2
@@ -76,7 +84,7 @@ extern "C" {
 #define ND110_MALFORMED 15      /* not zero, and a short exponent field or the top bit of a long mantissa is 0 */
 #define ND110_EXPONENT_RANGE 16 /* long to short: an exponent field beyond 16,129 to 16,639 */
 #define ND110_PRECISION 17      /* long to short: any of the nine lowest mantissa bits is set */
-#define ND110_BAD_CALL 255      /* a state of other than 155 words; view: an unknown kind, or too few words of output;
+#define ND110_BAD_CALL 255      /* a state of other than 156 words; view: an unknown kind, or too few words of output;
                                  * a conversion: an output of other than the form's words */
 
 /* Why a run ended. */
@@ -91,12 +99,15 @@ extern "C" {
 
 /* Registers of a level, and control words. ND110_PCR is the PCR of level 0, and those of levels 1 to 15 follow it.
  * ND110_PGS_HELD is 1 from the paging fault (interrupt 2 or 3) that wrote PGS until TRA PGS is executed, and PGS keeps
- * that fault while it is 1. It is 0 or 1 whatever PGS is; a PGS that is held may be 0. */
+ * that fault while it is 1. It is 0 or 1 whatever PGS is; a PGS that is held may be 0.
+ * ND110_EXTENDED is the extended flag, 1 after SEX and 0 after REX: which form the page tables have, and where their
+ * window stands, 177400 to 177777 while it is 0 and 177000 to 177777 while it is 1. */
 enum { ND110_STS, ND110_D, ND110_P, ND110_B, ND110_L, ND110_A, ND110_T, ND110_X };
 enum {
     ND110_CONTROL_LEVEL, ND110_INTERRUPTS_ON, ND110_PAGING_ON, ND110_IS_STOPPED,
     ND110_PID, ND110_PIE, ND110_PVL, ND110_IID, ND110_IIE, ND110_PGS, ND110_PCR,
-    ND110_PGS_HELD = 26 /* ND110_PCR + 16 */
+    ND110_PGS_HELD = 26, /* ND110_PCR + 16 */
+    ND110_EXTENDED = 27
 };
 #define ND110_REGISTER(level, number) (8 * (level) + (number))
 #define ND110_CONTROL(number) (128 + (number))
@@ -120,6 +131,7 @@ typedef struct nd110_state {
     uint16_t pgs;
     uint16_t pcr[16];
     uint16_t pgs_held;
+    uint16_t extended;
 } nd110_state;
 
 /* Does not compile, as C or C++, if the record has other than ND110_STATE_WORDS words. */
@@ -161,8 +173,9 @@ uint16_t nd110_raise_lent(nd110_state *state, uint16_t level, const uint16_t *me
                           const uint16_t *tables, size_t tables_len);
 
 /* The machine of an image: words, not bytes (an image file has the high byte first). Words that the image does not name
- * become 0; so does ND110_PGS_HELD with an image of only 26 control words, as versions 1 and 2 wrote them. The state's
- * words before the call may be any.
+ * become 0. So images that earlier versions wrote load: 26 or 27 control words leave ND110_EXTENDED as 0, 26 leave
+ * ND110_PGS_HELD as 0 too, and 256 page table words leave the other 256 as 0. The state's words before the call may be
+ * any.
  * ND110_BAD_CALL, ND110_SIZES, ND110_CONTENTS to ND110_BODIES, ND110_STATE. */
 uint16_t nd110_load(uint16_t *state, size_t state_len, const uint16_t *image, size_t image_len,
                     uint16_t *memory, size_t memory_len, uint16_t *tables, size_t tables_len);

@@ -1,12 +1,13 @@
 /*
  * Every function of include/nd110.h called through the archive, with arguments that cannot be taken for one another:
  * state, memory, page tables, image and output have different lengths, and the answers tell the numbers apart. What
- * must come is written by hand from document 01, of a paging fault that is held from document 02, card 3, of the
- * conversions from document 02, card 12. rust/nd110/tests/calls.rs is the same through the Rust crate, with held.rs
- * beside it.
+ * must come is written by hand from document 01, of a paging fault that is held from document 02, card 3, of extended
+ * mode and the largest memory from card 4, of the conversions from card 12. rust/nd110/tests/calls.rs is the same
+ * through the Rust crate, with held.rs, extended.rs and largest.rs beside it.
  */
 #include "nd110.h"
 #include <stdio.h>
+#include <stdlib.h>
 #include <string.h>
 
 #define WORDS(a) (sizeof(a) / sizeof((a)[0]))
@@ -95,8 +96,10 @@ static const uint16_t image[] = {
 
 enum {
     A_0 = ND110_REGISTER(0, ND110_A),
+    D_0 = ND110_REGISTER(0, ND110_D),
     P_0 = ND110_REGISTER(0, ND110_P),
     B_0 = ND110_REGISTER(0, ND110_B),
+    T_0 = ND110_REGISTER(0, ND110_T),
     X_0 = ND110_REGISTER(0, ND110_X),
     A_2 = ND110_REGISTER(2, ND110_A),
     T_14 = ND110_REGISTER(14, ND110_T),
@@ -110,15 +113,18 @@ enum {
     IIE = ND110_CONTROL(ND110_IIE),
     PGS = ND110_CONTROL(ND110_PGS),
     PCR_0 = ND110_CONTROL(ND110_PCR),
-    HELD = ND110_CONTROL(ND110_PGS_HELD)
+    HELD = ND110_CONTROL(ND110_PGS_HELD),
+    EXTENDED = ND110_CONTROL(ND110_EXTENDED)
 };
 
 /* Where a word is, by document 01 and not by the header. */
 static void places(void)
 {
+    IS(D_0, 1);
     IS(P_0, 2);
     IS(B_0, 3);
     IS(A_0, 5);
+    IS(T_0, 6);
     IS(X_0, 7);
     IS(A_2, 21);
     IS(T_14, 118);
@@ -135,12 +141,17 @@ static void places(void)
     IS(PCR_0, 138);
     IS(PCR_0 + 15, 153);
     IS(HELD, 154);
+    IS(EXTENDED, 155);
+    IS(ND110_STATE_WORDS, 156);
+    IS(ND110_TABLE_WORDS, 512);
+    IS(ND110_MEMORY_MOST, 16777216);
+    IS(ND110_IMAGE_EXTRA, 689);
 }
 
 /* Where a field of the record is, by document 01 too: two bytes a word. */
 static void fields(void)
 {
-    IS(sizeof(nd110_state), 2 * 155);
+    IS(sizeof(nd110_state), 2 * 156);
     IS(offsetof(nd110_state, registers[0][0]), 2 * 0);
     IS(offsetof(nd110_state, registers[0][7]), 2 * 7);
     IS(offsetof(nd110_state, registers[2][5]), 2 * 21);
@@ -159,6 +170,7 @@ static void fields(void)
     IS(offsetof(nd110_state, pcr[0]), 2 * 138);
     IS(offsetof(nd110_state, pcr[15]), 2 * 153);
     IS(offsetof(nd110_state, pgs_held), 2 * 154);
+    IS(offsetof(nd110_state, extended), 2 * 155);
 }
 
 /* Every word lent holds something, so that what a call clears or leaves is seen. */
@@ -483,10 +495,10 @@ static void viewed(void)
     IS(m.out[2], 0151000);
     IS(nd110_view(1, 2047, 1, MEMORY, TABLES, m.out, 1), 0);
     IS(m.out[0], 0);
-    IS(nd110_view(4, 256, 0, MEMORY, TABLES, m.out, 0), 0);
-    IS(nd110_view_answer(4, 0, 256, MEMORY, TABLES), 0);
-    IS(nd110_view_answer(4, 1, 256, MEMORY, TABLES), 9);
-    IS(nd110_view_answer(1, 4, 256, MEMORY, TABLES), 0);
+    IS(nd110_view(4, 512, 0, MEMORY, TABLES, m.out, 0), 0);
+    IS(nd110_view_answer(4, 0, 512, MEMORY, TABLES), 0);
+    IS(nd110_view_answer(4, 1, 512, MEMORY, TABLES), 9);
+    IS(nd110_view_answer(1, 4, 512, MEMORY, TABLES), 0);
     IS(nd110_view_answer(1, 1024, 1024, MEMORY, TABLES), 0);
     IS(nd110_view_answer(1, 1024, 1025, MEMORY, TABLES), 9);
     ARE(m.memory, PROGRAM);
@@ -498,7 +510,7 @@ static void viewed(void)
 static void written(void)
 {
     static const uint16_t contents[] = {
-        4, 1, 0, 0, 0, 2048, 2, 0, 0, 0, 128, 3, 0, 0, 0, 27, 4, 0, 0, 0, 256
+        4, 1, 0, 0, 0, 2048, 2, 0, 0, 0, 128, 3, 0, 0, 0, 28, 4, 0, 0, 0, 512
     };
     static uint16_t copy[IMAGE_WORDS];
     stepped();
@@ -510,9 +522,10 @@ static void written(void)
     IS(m.out[21 + 2048 + 21], 0321);
     IS(m.out[21 + 2048 + 128 + 5], 010000);
     IS(m.out[21 + 2048 + 128 + 26], 0);
-    IS(m.out[21 + 2048 + 128 + 27 + 3], 0111111);
-    IS(m.out[21 + 2048 + 128 + 27 + 255], 0);
-    IS(m.out[2480], GUARD);
+    IS(m.out[21 + 2048 + 128 + 27], 0);
+    IS(m.out[21 + 2048 + 128 + 28 + 3], 0111111);
+    IS(m.out[21 + 2048 + 128 + 28 + 511], 0);
+    IS(m.out[2737], GUARD);
     ARE(m.state, { A_0, 5 }, { P_0, 1 }, { A_2, 0321 }, { PIE, 010000 }, { IIE, 020 });
     guards();
     memcpy(copy, m.out, sizeof copy);
@@ -529,11 +542,13 @@ static void refused(void)
 {
     static const uint16_t many[] = { 33 };
     static const uint16_t kind[] = { 1, 5, 0, 0, 0, 0 };
-    static const uint16_t target[] = { 1, 4, 0, 256, 0, 1, 0 };
+    static const uint16_t target[] = { 1, 4, 0, 512, 0, 1, 0 };
     static const uint16_t overlap[] = { 2, 1, 0, 0, 0, 2, 1, 0, 1, 0, 1, 0, 0, 0 };
     static const uint16_t sts[] = { 1, 2, 0, 0, 0, 1, 0400 };
-    static const uint16_t past[] = { 1, 3, 0, 27, 0, 1, 0 };
-    static const uint16_t two[] = { 1, 3, 0, 26, 0, 1, 2 };
+    static const uint16_t past[] = { 1, 3, 0, 28, 0, 1, 0 };
+    static const uint16_t held_2[] = { 1, 3, 0, 26, 0, 1, 2 };
+    static const uint16_t extended_2[] = { 1, 3, 0, 27, 0, 1, 2 };
+    static const size_t states[] = { 154, 155, 157 }, tables[] = { 0, 255, 256, 511, 513 };
     static struct machine was;
     const uint16_t *nowhere = NULL;
     nd110_state *none = NULL;
@@ -542,7 +557,8 @@ static void refused(void)
     interrupt[1] = reason[1] = 077;
     steps[1] = 0777;
     was = m;
-    for (size_t len = 154; len <= 156; len += 2) {
+    for (size_t i = 0; i < WORDS(states); i++) {
+        size_t len = states[i];
         IS(nd110_step(m.state, len, MEMORY, TABLES, &interrupt[1]), 255);
         IS(nd110_run(m.state, len, MEMORY, TABLES, 10, &steps[1], &reason[1]), 255);
         IS(nd110_run_to_interrupt(m.state, len, MEMORY, TABLES, 10, &steps[1], &reason[1]), 255);
@@ -562,16 +578,19 @@ static void refused(void)
         IS(nd110_view(1, 0, 1, m.memory, len, TABLES, OUT), 1);
         IS(nd110_view_answer(1, 0, 1, m.memory, len, TABLES), 1);
     }
-    IS(nd110_step(STATE, MEMORY, m.tables, 255, &interrupt[1]), 1);
-    IS(nd110_step_lent(&m.record, MEMORY, m.tables, 255, &interrupt[1]), 1);
-    IS(nd110_raise_lent(&m.record, 10, MEMORY, m.tables, 255), 1);
-    IS(nd110_run(STATE, MEMORY, m.tables, 255, 10, &steps[1], &reason[1]), 1);
-    IS(nd110_run_to_interrupt(STATE, MEMORY, m.tables, 255, 10, &steps[1], &reason[1]), 1);
-    IS(nd110_raise(STATE, 10, MEMORY, m.tables, 255), 1);
-    IS(nd110_load(STATE, IMAGE, MEMORY, m.tables, 255), 1);
-    IS(nd110_write(STATE, MEMORY, m.tables, 255, OUT), 1);
-    IS(nd110_view(1, 0, 1, MEMORY, m.tables, 255, OUT), 1);
-    IS(nd110_view_answer(1, 0, 1, MEMORY, m.tables, 255), 1);
+    for (size_t i = 0; i < WORDS(tables); i++) {
+        size_t len = tables[i];
+        IS(nd110_step(STATE, MEMORY, m.tables, len, &interrupt[1]), 1);
+        IS(nd110_step_lent(&m.record, MEMORY, m.tables, len, &interrupt[1]), 1);
+        IS(nd110_raise_lent(&m.record, 10, MEMORY, m.tables, len), 1);
+        IS(nd110_run(STATE, MEMORY, m.tables, len, 10, &steps[1], &reason[1]), 1);
+        IS(nd110_run_to_interrupt(STATE, MEMORY, m.tables, len, 10, &steps[1], &reason[1]), 1);
+        IS(nd110_raise(STATE, 10, MEMORY, m.tables, len), 1);
+        IS(nd110_load(STATE, IMAGE, MEMORY, m.tables, len), 1);
+        IS(nd110_write(STATE, MEMORY, m.tables, len, OUT), 1);
+        IS(nd110_view(1, 0, 1, MEMORY, m.tables, len, OUT), 1);
+        IS(nd110_view_answer(1, 0, 1, MEMORY, m.tables, len), 1);
+    }
     IS(nd110_raise(STATE, 10, ND110_LENT(nowhere, MEMORY_WORDS), TABLES), 1);
     IS(nd110_raise(STATE, 9, MEMORY, TABLES), 3);
     IS(nd110_raise(STATE, 14, MEMORY, TABLES), 3);
@@ -590,12 +609,13 @@ static void refused(void)
     IS(nd110_load(STATE, overlap, WORDS(overlap), MEMORY, TABLES), 7);
     IS(nd110_load(STATE, image, WORDS(image) - 1, MEMORY, TABLES), 8);
     IS(nd110_load(STATE, sts, WORDS(sts), MEMORY, TABLES), 2);
-    IS(nd110_load(STATE, two, WORDS(two), MEMORY, TABLES), 2);
-    IS(nd110_write(STATE, MEMORY, TABLES, m.out, MEMORY_WORDS + 431), 10);
+    IS(nd110_load(STATE, held_2, WORDS(held_2), MEMORY, TABLES), 2);
+    IS(nd110_load(STATE, extended_2, WORDS(extended_2), MEMORY, TABLES), 2);
+    IS(nd110_write(STATE, MEMORY, TABLES, m.out, MEMORY_WORDS + 688), 10);
     IS(nd110_view(2, 0, 1, MEMORY, TABLES, OUT), 255);
     IS(nd110_view(1, 0, 2, MEMORY, TABLES, m.out, 1), 255);
     IS(nd110_view(1, 2048, 1, MEMORY, TABLES, OUT), 9);
-    IS(nd110_view(4, 255, 2, MEMORY, TABLES, OUT), 9);
+    IS(nd110_view(4, 511, 2, MEMORY, TABLES, OUT), 9);
     IS(nd110_view(4, SIZE_MAX, 2, MEMORY, TABLES, OUT), 9);
     IS(nd110_view_answer(0, 0, 1, MEMORY, TABLES), 255);
     IS(nd110_view_answer(5, 0, 1, MEMORY, TABLES), 255);
@@ -618,17 +638,19 @@ static void refused(void)
     guards();
 }
 
-/* Whether PGS is held is 0 or 1: every function that tests the state refuses others, and no lent word changes. */
-static void refused_held(void)
+/* Whether PGS is held, and the extended flag, are 0 or 1: every function that tests the state refuses others, and no
+ * lent word changes. */
+static void refused_flags(void)
 {
     static const uint16_t wrong[] = { 2, 3, 0100000, 0177777 };
     static struct machine was;
-    for (size_t i = 0; i < WORDS(wrong); i++) {
+    for (size_t i = 0; i < 2 * WORDS(wrong); i++) {
+        size_t at = i % 2 ? EXTENDED : HELD;
         loaded();
+        m.state[at] = wrong[i / 2];
         memcpy(&m.record, m.state, sizeof m.record);
         interrupt[1] = reason[1] = 077;
         steps[1] = 0777;
-        m.state[HELD] = m.record.pgs_held = wrong[i];
         was = m;
         IS(nd110_step(STATE, MEMORY, TABLES, &interrupt[1]), 2);
         IS(nd110_step_lent(&m.record, MEMORY, TABLES, &interrupt[1]), 2);
@@ -644,10 +666,365 @@ static void refused_held(void)
         IS(reason[1], 077);
         IS(steps[1], 0777);
         guards();
-        m.state[HELD] = m.record.pgs_held = 1;
+        m.state[at] = 1;
+        memcpy(&m.record, m.state, sizeof m.record);
         IS(nd110_step(STATE, MEMORY, TABLES, &interrupt[1]), 0);
         IS(nd110_raise_lent(&m.record, 10, MEMORY, TABLES), 0);
     }
+}
+
+/* SEX, TRA STS, REX, TRA STS, WAIT: bit 13 of the full status word is the extended flag, bit 12 is always 1. */
+static const uint16_t modes[] = { 1, 1, 0, 0, 0, 5, 0150406, 0150001, 0150407, 0150001, 0151000 };
+
+static void status(void)
+{
+    fill();
+    IS(nd110_load(STATE, modes, WORDS(modes), MEMORY, TABLES), 0);
+    IS(nd110_step(STATE, MEMORY, TABLES, &interrupt[1]), 0);
+    ARE(m.state, { P_0, 1 }, { EXTENDED, 1 });
+    IS(nd110_run(STATE, MEMORY, TABLES, 1, &steps[1], &reason[1]), 0);
+    ARE(m.state, { P_0, 2 }, { A_0, 030000 }, { EXTENDED, 1 });
+    memcpy(&m.record, m.state, sizeof m.record);
+    IS(nd110_step_lent(&m.record, MEMORY, TABLES, &interrupt[1]), 0);
+    IS(m.record.extended, 0);
+    RECORD_IS({ P_0, 3 }, { A_0, 030000 });
+    IS(nd110_run_to_interrupt(RECORD, MEMORY, TABLES, 10, &steps[1], &reason[1]), 0);
+    IS(steps[1], 2);
+    IS(reason[1], 0);
+    RECORD_IS({ P_0, 5 }, { A_0, 010000 }, { STOPPED, 1 });
+    ARE(m.tables, { 0, 0 });
+    guards();
+}
+
+/* On ring 2 with paging on, normal table 2, begun in 19-bit mode. SEX in memory's page 0; then in page 1, by the long
+ * entry: LDA 0,B from page 2, which is memory's page 0; STA 0,X to page 3, which may not be written; TRA PGS; REX; and
+ * WAIT in page 0 again. Slot 128 is table word 128 in 19-bit mode and the words 256 and 257 in extended mode, pages 2
+ * and 3 are the words 260 to 263. Bits 8-0 of a first word and 15-14 of a second mean nothing. */
+static const uint16_t switching[] = {
+    8,
+    1, 0, 0, 0, 2,
+    1, 0, 5, 0, 1,
+    1, 0, 1025, 0, 4,
+    2, 0, 3, 0, 5,
+    3, 0, 2, 0, 9,
+    4, 0, 128, 0, 1,
+    4, 0, 256, 0, 2,
+    4, 0, 260, 0, 4,
+    0150406, 0321,
+    0151000,
+    0044400, 0006000, 0150003, 0150407,
+    0004001, 0, 0, 0, 0006000,
+    1, 0, 0, 0, 0, 0, 0, 0, 02002,
+    0162000,
+    0162777, 0140001,
+    0042000, 0040000, 0042777, 0100001,
+};
+#define SWITCHING switching, WORDS(switching)
+
+/* After each of its steps: the interrupt; P and A; stopped; IID; PGS, whether it is held, and the mode; the table words
+ * 128, 256 and 260. PGS has the slot of page 3, 131, as it is. */
+static const struct {
+    uint16_t interrupt, p, a, stopped, iid, pgs, held, extended, short_128, first_128, first_130;
+} switched[] = {
+    { 0, 1, 0, 0, 0, 0, 0, 1, 0166000, 0162777, 0042000 },
+    { 0, 2, 0321, 0, 0, 0, 0, 1, 0166000, 0166777, 0046000 },
+    { 2, 3, 0321, 0, 04, 0040203, 1, 1, 0166000, 0166777, 0046000 },
+    { 0, 4, 0040203, 0, 04, 0040203, 0, 1, 0166000, 0166777, 0046000 },
+    { 0, 5, 0040203, 0, 04, 0040203, 0, 0, 0166000, 0166777, 0046000 },
+    { 0, 6, 0040203, 1, 04, 0040203, 0, 0, 0166000, 0166777, 0046000 },
+};
+#define SWITCHED(i)                                                                                  \
+    { P_0, switched[i].p }, { B_0, 0004001 }, { A_0, switched[i].a }, { X_0, 0006000 },              \
+    { PAGING, 1 }, { STOPPED, switched[i].stopped }, { IID, switched[i].iid },                       \
+    { PGS, switched[i].pgs }, { PCR_0, 02002 }, { HELD, switched[i].held },                          \
+    { EXTENDED, switched[i].extended }
+
+static void switched_rest(size_t i)
+{
+    ARE(m.memory, { 0, 0150406 }, { 1, 0321 }, { 5, 0151000 }, { 1025, 0044400 }, { 1026, 0006000 }, { 1027, 0150003 },
+        { 1028, 0150407 });
+    ARE(m.tables, { 128, switched[i].short_128 }, { 256, switched[i].first_128 }, { 257, 0140001 },
+        { 260, switched[i].first_130 }, { 261, 0040000 }, { 262, 0042777 }, { 263, 0100001 });
+    guards();
+}
+
+/* By words: each step, then so many at once, then to the interrupt; and by lent steps. */
+static void long_entries(void)
+{
+    fill();
+    IS(nd110_load(STATE, SWITCHING, MEMORY, TABLES), 0);
+    for (size_t i = 0; i < WORDS(switched); i++) {
+        IS(nd110_step(STATE, MEMORY, TABLES, &interrupt[1]), 0);
+        IS(interrupt[1], switched[i].interrupt);
+        ARE(m.state, SWITCHED(i));
+        switched_rest(i);
+    }
+    for (size_t i = 0; i < WORDS(switched); i++) {
+        fill();
+        IS(nd110_load(STATE, SWITCHING, MEMORY, TABLES), 0);
+        IS(nd110_run(STATE, MEMORY, TABLES, i + 1, &steps[1], &reason[1]), 0);
+        IS(steps[1], i + 1);
+        IS(reason[1], i == 5 ? 0 : 2);
+        ARE(m.state, SWITCHED(i));
+        switched_rest(i);
+    }
+    fill();
+    IS(nd110_load(STATE, SWITCHING, MEMORY, TABLES), 0);
+    IS(nd110_run_to_interrupt(STATE, MEMORY, TABLES, 10, &steps[1], &reason[1]), 0);
+    IS(steps[1], 3);
+    IS(reason[1], 3);
+    ARE(m.state, SWITCHED(2));
+    switched_rest(2);
+    fill();
+    IS(nd110_load(RECORD, SWITCHING, MEMORY, TABLES), 0);
+    IS(m.record.extended, 0);
+    for (size_t i = 0; i < WORDS(switched); i++) {
+        IS(nd110_step_lent(&m.record, MEMORY, TABLES, &interrupt[1]), 0);
+        IS(interrupt[1], switched[i].interrupt);
+        IS(m.record.extended, switched[i].extended);
+        RECORD_IS(SWITCHED(i));
+        switched_rest(i);
+    }
+}
+
+/* The seven by T and X, paging off: STDTX, past the memory; STDTX to the first two words of the page tables; LDDTX from
+ * the second and third; STZTX to the first; LDBTX from the second; STATX to the seventh; LDXTX from the first; LDATX
+ * from memory; the eighth code, which is illegal; WAIT. T is 0 and X the address before the window of the mode. */
+static const uint16_t by_t_and_x[] = {
+    4,
+    1, 0, 0, 0, 10,
+    2, 0, 1, 0, 1,
+    2, 0, 5, 0, 1,
+    4, 0, 2, 0, 1,
+    0143306, 0143316, 0143322, 0143315, 0143323, 0143374, 0143311, 0143350, 0143357, 0151000,
+    0012345,
+    0054321,
+    0111111,
+};
+
+/* After each of its steps: the interrupt; D, P, B and A; whether X is still the first; stopped and IID; the table words
+ * 0, 1 and 6. LDBTX gives twice 012345, 024712, with bits 15 to 9 set. */
+static const struct {
+    uint16_t interrupt, d, p, b, a, first_x, stopped, iid, t0, t1, t6;
+} reached[] = {
+    { 9, 0012345, 1, 0, 0054321, 1, 0, 01000, 0, 0, 0 },
+    { 0, 0012345, 2, 0, 0054321, 1, 0, 01000, 0054321, 0012345, 0 },
+    { 0, 0111111, 3, 0, 0012345, 1, 0, 01000, 0054321, 0012345, 0 },
+    { 0, 0111111, 4, 0, 0012345, 1, 0, 01000, 0, 0012345, 0 },
+    { 0, 0111111, 5, 0177712, 0012345, 1, 0, 01000, 0, 0012345, 0 },
+    { 0, 0111111, 6, 0177712, 0012345, 1, 0, 01000, 0, 0012345, 0012345 },
+    { 0, 0111111, 7, 0177712, 0012345, 0, 0, 01000, 0, 0012345, 0012345 },
+    { 0, 0111111, 8, 0177712, 0143374, 0, 0, 01000, 0, 0012345, 0012345 },
+    { 4, 0111111, 9, 0177712, 0143374, 0, 0, 01020, 0, 0012345, 0012345 },
+    { 0, 0111111, 10, 0177712, 0143374, 0, 1, 01020, 0, 0012345, 0012345 },
+};
+
+static void reached_rest(size_t i)
+{
+    ARE(m.memory, { 0, 0143306 }, { 1, 0143316 }, { 2, 0143322 }, { 3, 0143315 }, { 4, 0143323 }, { 5, 0143374 },
+        { 6, 0143311 }, { 7, 0143350 }, { 8, 0143357 }, { 9, 0151000 });
+    ARE(m.tables, { 0, reached[i].t0 }, { 1, reached[i].t1 }, { 2, 0111111 }, { 6, reached[i].t6 });
+    guards();
+}
+
+/* By words and by lent steps, in both modes. */
+static void physical(void)
+{
+    for (uint16_t mode = 0; mode < 2; mode++) {
+        uint16_t x = mode ? 0176777 : 0177377;
+        fill();
+        IS(nd110_load(STATE, by_t_and_x, WORDS(by_t_and_x), MEMORY, TABLES), 0);
+        m.state[X_0] = x;
+        m.state[EXTENDED] = mode;
+        memcpy(&m.record, m.state, sizeof m.record);
+        for (size_t i = 0; i < WORDS(reached); i++) {
+            IS(nd110_step(STATE, MEMORY, TABLES, &interrupt[1]), 0);
+            IS(interrupt[1], reached[i].interrupt);
+            ARE(m.state, { D_0, reached[i].d }, { P_0, reached[i].p }, { B_0, reached[i].b }, { A_0, reached[i].a },
+                { X_0, reached[i].first_x ? x : 0 }, { STOPPED, reached[i].stopped }, { IID, reached[i].iid },
+                { EXTENDED, mode });
+            reached_rest(i);
+        }
+        m.tables[0] = m.tables[1] = m.tables[6] = 0;
+        for (size_t i = 0; i < WORDS(reached); i++) {
+            IS(nd110_step_lent(&m.record, MEMORY, TABLES, &interrupt[1]), 0);
+            IS(interrupt[1], reached[i].interrupt);
+            IS(m.record.registers[0][ND110_A], reached[i].a);
+            IS(m.record.registers[0][ND110_B], reached[i].b);
+            IS(m.record.extended, mode);
+            reached_rest(i);
+        }
+        IS(memcmp(&m.record, m.state, sizeof m.record), 0);
+    }
+}
+
+/* Written in extended mode and loaded again. Then images of 26 to 29 control words and of 256, 512 and 513 table words,
+ * over words that are filled: what is not named is 0. */
+static void extended_images(void)
+{
+    static uint16_t copy[IMAGE_WORDS], words[6 + 513] = { 1 };
+    static const struct {
+        uint16_t kind, len, answer;
+    } loads[] = { { 3, 26, 0 }, { 3, 27, 0 }, { 3, 28, 0 }, { 3, 29, 6 }, { 4, 256, 0 }, { 4, 512, 0 }, { 4, 513, 6 } };
+    fill();
+    IS(nd110_load(RECORD, SWITCHING, MEMORY, TABLES), 0);
+    IS(nd110_run(RECORD, MEMORY, TABLES, 3, &steps[1], &reason[1]), 0);
+    IS(nd110_write(RECORD, MEMORY, TABLES, m.out, IMAGE_WORDS), 0);
+    IS(m.out[21 + 2048 + 128 + 27], 1);
+    IS(m.out[21 + 2048 + 156 + 263], 0100001);
+    IS(m.out[IMAGE_WORDS], GUARD);
+    memcpy(copy, m.out, sizeof copy);
+    fill();
+    IS(nd110_load(RECORD, copy, WORDS(copy), MEMORY, TABLES), 0);
+    RECORD_IS(SWITCHED(2));
+    switched_rest(2);
+    for (size_t i = 0; i < WORDS(loads); i++) {
+        uint16_t kind = loads[i].kind, len = loads[i].len;
+        fill();
+        words[1] = kind;
+        words[5] = len;
+        for (size_t k = 0; k < len; k++)
+            words[6 + k] = kind == 4 ? (uint16_t)(0100001 + k) : k == 2 || k >= 26;
+        IS(nd110_load(STATE, words, 6u + len, MEMORY, TABLES), loads[i].answer);
+        if (loads[i].answer == 6) {
+            IS(m.state[0], GUARD);
+            IS(m.tables[0], GUARD);
+        } else if (kind == 3) {
+            ARE(m.state, { PAGING, 1 }, { HELD, len > 26 }, { EXTENDED, len > 27 });
+            ARE(m.tables, { 0, 0 });
+        } else {
+            ARE(m.state, { 0, 0 });
+            IS(m.tables[0], 0100001);
+            IS(m.tables[255], 0100400);
+            IS(m.tables[256], len > 256 ? 0100401 : 0);
+            IS(m.tables[511], len > 256 ? 0101000 : 0);
+        }
+        guards();
+    }
+}
+
+/* The largest memory: its last word, by an entry of page 16,383 and by T and X; the word before it; one past it, which
+ * gives 9. LDA 0,B; SAA 5; STATX; LDDTX; LDATX one past; STDTX and STATX with other X and T; WAIT. On ring 2 in
+ * extended mode with paging on. */
+static const uint16_t largest_image[] = {
+    6,
+    1, 0, 0, 0, 8,
+    1, 0377, 0177777, 0, 1,
+    2, 0, 3, 0, 5,
+    3, 0, 2, 0, 9,
+    3, 0, 27, 0, 1,
+    4, 0, 0, 0, 4,
+    0044400, 0170405, 0143304, 0143302, 0143320, 0143306, 0143374, 0151000,
+    0123321,
+    03777, 0, 0, 0377, 0177776,
+    1, 0, 0, 0, 0, 0, 0, 0, 2,
+    1,
+    0162000, 0, 0162000, 037777,
+};
+#define LARGEST_IMAGE largest_image, WORDS(largest_image)
+#define LARGEST 16777216
+
+/* One page more than the largest memory, one word more, one word less: every function refuses 1. */
+static void refused_sizes(uint16_t *memory, uint16_t *out)
+{
+    static const size_t wrong[] = { 16778240, 16777217, 16777215 };
+    for (size_t i = 0; i < WORDS(wrong); i++) {
+        size_t len = wrong[i];
+        IS(nd110_step(STATE, memory, len, TABLES, &interrupt[1]), 1);
+        IS(nd110_step_lent(&m.record, memory, len, TABLES, &interrupt[1]), 1);
+        IS(nd110_run(STATE, memory, len, TABLES, 10, &steps[1], &reason[1]), 1);
+        IS(nd110_run_to_interrupt(STATE, memory, len, TABLES, 10, &steps[1], &reason[1]), 1);
+        IS(nd110_raise(STATE, 10, memory, len, TABLES), 1);
+        IS(nd110_raise_lent(&m.record, 10, memory, len, TABLES), 1);
+        IS(nd110_load(STATE, LARGEST_IMAGE, memory, len, TABLES), 1);
+        IS(nd110_write(STATE, memory, len, TABLES, out, LARGEST + 689), 1);
+        IS(nd110_view(1, 0, 1, memory, len, TABLES, OUT), 1);
+        IS(nd110_view_answer(1, 0, 1, memory, len, TABLES), 1);
+    }
+}
+
+/* The image's machine by steps, a run and a run to the interrupt, then a raise. */
+static void largest_steps(uint16_t *memory)
+{
+    IS(nd110_load(RECORD, LARGEST_IMAGE, memory, LARGEST, TABLES), 0);
+    IS(memory[LARGEST - 1], 0123321);
+    IS(memory[LARGEST - 2], 0);
+    IS(nd110_step_lent(&m.record, memory, LARGEST, TABLES, &interrupt[1]), 0);
+    IS(interrupt[1], 0);
+    IS(m.record.registers[0][ND110_A], 0123321);
+    IS(nd110_step(RECORD, memory, LARGEST, TABLES, &interrupt[1]), 0);
+    IS(m.record.registers[0][ND110_A], 5);
+    IS(nd110_run(RECORD, memory, LARGEST, TABLES, 1, &steps[1], &reason[1]), 0);
+    IS(memory[LARGEST - 2], 5);
+    IS(nd110_run_to_interrupt(RECORD, memory, LARGEST, TABLES, 10, &steps[1], &reason[1]), 0);
+    IS(steps[1], 2);
+    IS(reason[1], 3);
+    RECORD_IS({ D_0, 0123321 }, { P_0, 5 }, { B_0, 03777 }, { A_0, 5 }, { T_0, 0377 }, { X_0, 0177776 }, { PAGING, 1 },
+              { IID, 01000 }, { PCR_0, 2 }, { EXTENDED, 1 });
+    ARE(m.tables, { 0, 0166000 }, { 2, 0166000 }, { 3, 037777 });
+    /* STDTX at the last word, and STATX at T = X = 177777 with displacement 7: 9 too, and nothing is stored */
+    m.record.registers[0][ND110_X] = 0177777;
+    IS(nd110_step_lent(&m.record, memory, LARGEST, TABLES, &interrupt[1]), 0);
+    IS(interrupt[1], 9);
+    IS(memory[LARGEST - 1], 0123321);
+    m.record.registers[0][ND110_T] = 0177777;
+    IS(nd110_step(RECORD, memory, LARGEST, TABLES, &interrupt[1]), 0);
+    IS(interrupt[1], 9);
+    IS(memory[6], 0143374);
+    IS(m.record.registers[0][ND110_P], 7);
+    IS(nd110_raise_lent(&m.record, 10, memory, LARGEST, TABLES), 0);
+    IS(m.record.pid, 02000);
+    IS(nd110_run(RECORD, memory, LARGEST, TABLES, 10, &steps[1], &reason[1]), 0);
+    IS(steps[1], 1);
+    IS(reason[1], 0);
+    IS(memory[LARGEST - 1], 0123321);
+}
+
+/* Viewed, written, cleared, and loaded again. */
+static void largest_images(uint16_t *memory, uint16_t *out)
+{
+    static const uint16_t contents[] = { 4, 1, 0, 0, 256, 0, 2, 0, 0, 0, 128, 3, 0, 0, 0, 28, 4, 0, 0, 0, 512 };
+    nd110_state was = m.record;
+    IS(nd110_view(1, LARGEST - 2, 2, memory, LARGEST, TABLES, OUT), 0);
+    IS(m.out[0], 5);
+    IS(m.out[1], 0123321);
+    IS(nd110_view(1, LARGEST - 1, 2, memory, LARGEST, TABLES, OUT), 9);
+    IS(nd110_view_answer(1, 0, LARGEST, memory, LARGEST, TABLES), 0);
+    IS(nd110_view_answer(1, LARGEST, 1, memory, LARGEST, TABLES), 9);
+    out[LARGEST + 689] = GUARD;
+    IS(nd110_write(RECORD, memory, LARGEST, TABLES, out, LARGEST + 688), 10);
+    IS(nd110_write(RECORD, memory, LARGEST, TABLES, out, LARGEST + 690), 0);
+    IS(memcmp(out, contents, sizeof contents), 0);
+    IS(memcmp(out + 21, memory, 2u * LARGEST), 0);
+    IS(memcmp(out + 21 + LARGEST, &was, sizeof was), 0);
+    IS(out[21 + LARGEST + 156 + 3], 037777);
+    IS(out[LARGEST + 689], GUARD);
+    memset(memory, 0, 2u * LARGEST);
+    fill();
+    IS(nd110_load(RECORD, out, LARGEST + 689, memory, LARGEST, TABLES), 0);
+    IS(memcmp(&m.record, &was, sizeof was), 0);
+    IS(memcmp(out + 21, memory, 2u * LARGEST), 0);
+    ARE(m.tables, { 0, 0166000 }, { 2, 0166000 }, { 3, 037777 });
+    guards();
+}
+
+static void largest(void)
+{
+    uint16_t *memory = calloc(LARGEST + 1024, sizeof *memory);
+    uint16_t *out = calloc(LARGEST + 690, sizeof *out);
+    IS(memory && out, 1);
+    if (memory && out) {
+        loaded();
+        memcpy(&m.record, m.state, sizeof m.record);
+        refused_sizes(memory, out);
+        IS(memory[0], 0);
+        IS(out[0], 0);
+        largest_steps(memory);
+        IS(memory[LARGEST], 0);
+        largest_images(memory, out);
+    }
+    free(memory);
+    free(out);
 }
 
 /* A floating number in both forms: A D, and T A D. The first five are document 002's, with +3 as document 02 puts it
@@ -779,7 +1156,12 @@ int main(void)
     viewed();
     written();
     refused();
-    refused_held();
+    refused_flags();
+    status();
+    long_entries();
+    physical();
+    extended_images();
+    largest();
     converted();
     not_converted();
     if (failures == 0)

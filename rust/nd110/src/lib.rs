@@ -38,7 +38,7 @@ pub use numbers::{
 pub struct State(pub [u16; STATE_WORDS]);
 
 impl State {
-    /// Every word 0: level 0, interrupts and paging off, not stopped, no paging fault held.
+    /// Every word 0: level 0, interrupts and paging off, not stopped, no paging fault held, 19-bit mode.
     pub fn new() -> State {
         State([0; STATE_WORDS])
     }
@@ -163,7 +163,7 @@ pub fn load(image: &[u16], memory: &mut [u16], tables: &mut [u16]) -> Result<Sta
     Ok(state)
 }
 
-/// The machine as an image of memory + 432 words; words of `out` past it stay. Refuses 1, 2, 10.
+/// The machine as an image of memory + 689 words; words of `out` past it stay. Refuses 1, 2, 10.
 pub fn write(
     state: &State,
     memory: &[u16],

@@ -109,7 +109,7 @@ mod raw {
 }
 
 // SAFETY of every call below: the places and lengths are those of slices and references, valid, and apart where one is
-// written; the library is proved to stay within them. A record's place is that of a `State`, which is exactly its 155
+// written; the library is proved to stay within them. A record's place is that of a `State`, which is exactly its 156
 // words (`repr(transparent)`), in the order of the header's nd110_state.
 
 pub fn step(state: &mut [u16], memory: &mut [u16], tables: &mut [u16], interrupt: &mut u16) -> u16 {
@@ -327,36 +327,40 @@ mod tests {
             .collect()
     }
 
-    /// A state of 154 words, as it was before version 3, is no state, nor is one of 156.
+    /// A state of 155 words, as version 3 had it, or of 154, as it was before, is no state, nor is one of 157.
     #[test]
     fn states_of_any_length() {
         let rest = PAGE_WORDS + TABLE_WORDS + PAGE_WORDS + IMAGE_EXTRA;
-        for len in [0, 1, 128, 153, 154, 156, 157, 310] {
+        for len in [0, 1, 128, 153, 154, 155, 157, 158, 312] {
             let left: Vec<u16> = [vec![0; len], vec![F; rest]].concat();
             for given in calls(&vec![0; len]) {
                 assert_eq!(given, (255, left.clone(), [F.into(); 3]), "{len} words");
             }
         }
-        let numbers: Vec<u16> = calls(&[0; 155]).iter().map(|given| given.0).collect();
+        let numbers: Vec<u16> = calls(&[0; 156]).iter().map(|given| given.0).collect();
         assert_eq!(numbers, [0; 6]);
     }
 
-    /// An image of 26 control words, over a state whose PGS is held: what it does not name is 0.
+    /// Images of 26 and 27 control words, over states whose PGS is held and whose mode is extended, or that are out of
+    /// range: what an image does not name is 0.
     #[test]
-    fn loads_over_a_held_state() {
-        let mut image = vec![1, 3, 0, 0, 0, 26];
-        image.resize(6 + 26, 0);
-        image[6 + 9] = 0o040102;
-        let (mut memory, mut tables) = ([F; PAGE_WORDS], [F; TABLE_WORDS]);
-        let mut want = [0; 155];
-        want[128 + 9] = 0o040102;
-        for held in [0, 1, 2, 0o177777] {
-            let mut state = [0; 155];
-            state[128 + 26] = held;
-            assert_eq!(load(&mut state, &image, &mut memory, &mut tables), 0);
-            assert_eq!(state, want);
+    fn loads_over_any_state() {
+        for len in [26, 27] {
+            let mut image = vec![1, 3, 0, 0, 0, len];
+            image.resize(6 + usize::from(len), 0);
+            image[6 + 9] = 0o040102;
+            let (mut memory, mut tables) = ([F; PAGE_WORDS], [F; TABLE_WORDS]);
+            let mut want = [0; 156];
+            want[128 + 9] = 0o040102;
+            for [held, extended] in [[0, 0], [0, 1], [1, 0], [1, 1], [2, 2], [0o177777; 2]] {
+                let mut state = [0; 156];
+                state[128 + 26] = held;
+                state[128 + 27] = extended;
+                assert_eq!(load(&mut state, &image, &mut memory, &mut tables), 0);
+                assert_eq!(state, want);
+            }
+            assert_eq!((memory, tables), ([0; PAGE_WORDS], [0; TABLE_WORDS]));
         }
-        assert_eq!((memory, tables), ([0; PAGE_WORDS], [0; TABLE_WORDS]));
     }
 
     /// What an output holds before a conversion.

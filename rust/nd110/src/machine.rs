@@ -19,7 +19,7 @@ pub struct Machine {
 }
 
 impl Machine {
-    /// Every word 0, with so many pages of memory: 1 to 512, others are refused 1.
+    /// Every word 0, with so many pages of memory: 1 to 16,384, others are refused 1.
     pub fn new(pages: usize) -> Result<Machine, Refusal> {
         if !(1..=MEMORY_MOST / PAGE_WORDS).contains(&pages) {
             return Err(Refusal::Sizes);
@@ -92,7 +92,8 @@ impl Machine {
         &mut self.memory
     }
 
-    /// The four page tables of 64 entries.
+    /// The four page tables of 64 entries. In 19-bit mode the entry of virtual page v in table t is word 64 * t + v, in
+    /// extended mode the words 2 * (64 * t + v) and the one behind it.
     pub fn tables(&self) -> &[u16; TABLE_WORDS] {
         &self.tables
     }

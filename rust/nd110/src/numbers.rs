@@ -4,18 +4,19 @@ use std::error::Error;
 use std::fmt;
 
 /// The version of the interface.
-pub const VERSION: usize = 3;
+pub const VERSION: usize = 4;
 
-/// Words of a state in image order: 128 registers, then 27 control words.
-pub const STATE_WORDS: usize = 155;
-/// Words of lent page tables.
-pub const TABLE_WORDS: usize = 256;
+/// Words of a state in image order: 128 registers, then 28 control words.
+pub const STATE_WORDS: usize = 156;
+/// Words of lent page tables: four tables of 64 entries, of one word each in 19-bit mode, which uses the first 256, of
+/// two in extended mode.
+pub const TABLE_WORDS: usize = 512;
 /// Words of a page: lent memory is a whole number of pages.
 pub const PAGE_WORDS: usize = 1024;
-/// Most words of lent memory.
-pub const MEMORY_MOST: usize = 524_288;
+/// Most words of lent memory, in either mode.
+pub const MEMORY_MOST: usize = 16_777_216;
 /// Words of a written image beside memory.
-pub const IMAGE_EXTRA: usize = 432;
+pub const IMAGE_EXTRA: usize = 689;
 /// Words of a short floating number, 32 bits: A, D.
 pub const SHORT_WORDS: usize = 2;
 /// Words of a long floating number, 48 bits: T, A, D.
@@ -178,6 +179,8 @@ pub enum Control {
     /// 1 from the paging fault (interrupt 2 or 3) that wrote PGS until TRA PGS is executed: PGS keeps that fault while
     /// this is 1. It is 0 or 1 whatever PGS is; a PGS that is held may be 0.
     PgsHeld = 26,
+    /// The extended flag, 1 after SEX and 0 after REX: entries of two words, and a window at 177000 to 177777.
+    Extended = 27,
 }
 
 /// The control word that is the PCR of level 0.

@@ -43,6 +43,7 @@ const PIE: usize = 133;
 const IID: usize = 135;
 const IIE: usize = 136;
 const HELD: usize = 154;
+const EXTENDED: usize = 155;
 
 #[derive(Clone, Debug, PartialEq)]
 struct Machine {
@@ -218,9 +219,10 @@ fn viewed() {
     let m = Machine::loaded();
     assert_eq!(m.view(Target::Memory, 2, 3).unwrap(), &PROGRAM[2..5]);
     assert_eq!(m.view(Target::Tables, 3, 2).unwrap(), [0o111111, 0o022222]);
-    assert_eq!(m.view(Target::Tables, 256, 0).unwrap(), []);
-    assert_eq!(m.view(Target::Tables, 1, 256), Err(Refusal::View));
-    assert_eq!(m.view(Target::Memory, 1, 256).unwrap().len(), 256);
+    assert_eq!(m.view(Target::Tables, 512, 0).unwrap(), []);
+    assert_eq!(m.view(Target::Tables, 0, 512).unwrap(), m.tables);
+    assert_eq!(m.view(Target::Tables, 1, 512), Err(Refusal::View));
+    assert_eq!(m.view(Target::Memory, 1, 512).unwrap().len(), 512);
     assert_eq!(m.view(Target::Memory, usize::MAX, 2), Err(Refusal::View));
     let mut out = [FILLED; 4];
     let mut into = |target, start, len, room: usize| {
@@ -236,7 +238,7 @@ fn viewed() {
         (Err(Refusal::BadCall), tables)
     );
     assert_eq!(
-        into(Target::Tables, 255, 2, 4),
+        into(Target::Tables, 511, 2, 4),
         (Err(Refusal::View), tables)
     );
     assert_eq!(
@@ -252,15 +254,15 @@ fn written() {
     let mut out = vec![FILLED; MEMORY + IMAGE_EXTRA + 1];
     assert_eq!(m.write(&mut out), Ok(()));
     let contents = [
-        4, 1, 0, 0, 0, 2048, 2, 0, 0, 0, 128, 3, 0, 0, 0, 27, 4, 0, 0, 0, 256,
+        4, 1, 0, 0, 0, 2048, 2, 0, 0, 0, 128, 3, 0, 0, 0, 28, 4, 0, 0, 0, 512,
     ];
     assert_eq!(out[..21], contents);
     assert_eq!(out[21..2069], m.memory);
-    assert_eq!(out[2069..2224], m.state.0);
-    assert_eq!(out[2224..2480], m.tables);
-    assert_eq!(out[2480], FILLED);
+    assert_eq!(out[2069..2225], m.state.0);
+    assert_eq!(out[2225..2737], m.tables);
+    assert_eq!(out[2737], FILLED);
     let (mut memory, mut tables) = (vec![FILLED; MEMORY], vec![FILLED; TABLE_WORDS]);
-    let state = load(&out[..2480], &mut memory, &mut tables).unwrap();
+    let state = load(&out[..2737], &mut memory, &mut tables).unwrap();
     let again = Machine {
         state,
         memory,
@@ -272,7 +274,13 @@ fn written() {
 #[test]
 fn refused() {
     let loaded = Machine::loaded();
-    for (memory, tables) in [(0, 256), (2047, 256), (525_312, 256), (2048, 255)] {
+    for (memory, tables) in [
+        (0, 512),
+        (2047, 512),
+        (16_778_240, 512),
+        (2048, 511),
+        (2048, 256),
+    ] {
         let mut m = loaded.clone();
         m.memory = vec![0; memory];
         m.tables = vec![0; tables];
@@ -284,26 +292,28 @@ fn refused() {
     let mut m = loaded.clone();
     m.state.0[0] = 0o400;
     m.refuses_all(Refusal::State);
-    for held in [2, 3, 0o100000, 0o177777] {
-        let mut m = loaded.clone();
-        m.state.0[HELD] = held;
-        m.refuses_all(Refusal::State);
+    for wrong in [2, 3, 0o100000, 0o177777] {
+        for at in [HELD, EXTENDED] {
+            let mut m = loaded.clone();
+            m.state.0[at] = wrong;
+            m.refuses_all(Refusal::State);
+        }
     }
     let mut m = loaded.clone();
     for level in [0, 9, 14, 16] {
         assert_eq!(m.raise(level), Err(Refusal::RaiseLevel));
         assert_eq!(m.raise_lent(level), Err(Refusal::RaiseLevel));
     }
-    let mut out = [FILLED; MEMORY + 431];
+    let mut out = [FILLED; MEMORY + 688];
     assert_eq!(m.write(&mut out), Err(Refusal::Output));
     assert!(out.iter().all(|word| *word == FILLED));
-    let images: [(&[u16], Refusal); 11] = [
+    let images: [(&[u16], Refusal); 12] = [
         (&[], Refusal::Contents),
         (&IMAGE[..25], Refusal::Contents),
         (&[33], Refusal::Contents),
         (&[1, 5, 0, 0, 0, 0], Refusal::Kind),
-        (&[1, 4, 0, 256, 0, 1, 0], Refusal::Target),
-        (&[1, 3, 0, 27, 0, 1, 0], Refusal::Target),
+        (&[1, 4, 0, 512, 0, 1, 0], Refusal::Target),
+        (&[1, 3, 0, 28, 0, 1, 0], Refusal::Target),
         (
             &[2, 1, 0, 0, 0, 2, 1, 0, 1, 0, 1, 0, 0, 0],
             Refusal::Overlap,
@@ -312,6 +322,7 @@ fn refused() {
         (&[0, 0], Refusal::Bodies),
         (&[1, 2, 0, 0, 0, 1, 0o400], Refusal::State),
         (&[1, 3, 0, 26, 0, 1, 2], Refusal::State),
+        (&[1, 3, 0, 27, 0, 1, 2], Refusal::State),
     ];
     for (image, refusal) in images {
         assert_eq!(load(image, &mut m.memory, &mut m.tables), Err(refusal));

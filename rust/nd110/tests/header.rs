@@ -190,6 +190,9 @@ const CONTROLS: [Control; PCR] = {
     ]
 };
 
+/// The control words behind the PCRs.
+const ADDED: [Control; 2] = [Control::PgsHeld, Control::Extended];
+
 #[test]
 fn places() {
     use Control::*;
@@ -211,7 +214,7 @@ fn places() {
         assert_eq!(register as usize, at);
         assert_eq!(ours[at], (format!("ND110_{}", upper(&register)), at));
     }
-    assert_eq!(control.len(), CONTROLS.len() + 2);
+    assert_eq!(control.len(), CONTROLS.len() + 1 + ADDED.len());
     for (at, word) in CONTROLS.into_iter().enumerate() {
         assert_eq!(word as usize, at);
         let name = match word {
@@ -222,9 +225,11 @@ fn places() {
         assert_eq!(control[at], (format!("ND110_{name}"), at));
     }
     assert_eq!(control[PCR], ("ND110_PCR".to_string(), PCR));
-    let held = format!("ND110_{}", upper(&PgsHeld));
-    assert_eq!(control[PCR + 1], (held, PgsHeld as usize));
-    assert_eq!(PgsHeld as usize, PCR + 16);
+    for (at, word) in ADDED.into_iter().enumerate() {
+        assert_eq!(word as usize, PCR + 16 + at);
+        let name = format!("ND110_{}", upper(&word));
+        assert_eq!(control[PCR + 1 + at], (name, word as usize));
+    }
 }
 
 /// The fields of the header's record: each `uint16_t ..;`.
@@ -242,14 +247,14 @@ fn fields() -> Vec<String> {
         .collect()
 }
 
-/// The record is the state in image order: registers of sixteen levels, the control words, the PCRs, and whether PGS is
-/// held.
+/// The record is the state in image order: registers of sixteen levels, the control words, the PCRs, and the control
+/// words behind them.
 #[test]
 fn record() {
     let mut ours = vec!["registers[16][8]".to_string()];
     ours.extend(CONTROLS.iter().map(|word| upper(word).to_lowercase()));
     ours.push("pcr[16]".to_string());
-    ours.push(upper(&Control::PgsHeld).to_lowercase());
+    ours.extend(ADDED.iter().map(|word| upper(word).to_lowercase()));
     assert_eq!(fields(), ours);
-    assert_eq!(16 * 8 + CONTROLS.len() + 16 + 1, STATE_WORDS);
+    assert_eq!(16 * 8 + CONTROLS.len() + 16 + ADDED.len(), STATE_WORDS);
 }

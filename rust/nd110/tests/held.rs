@@ -305,12 +305,12 @@ fn images() {
     for held in [0, 1] {
         let mut m = faulting_after(2);
         m.state.0[HELD] = held;
-        let mut image = vec![0o125252; MEMORY + 432];
+        let mut image = vec![0o125252; MEMORY + 689];
         assert_eq!(write(&m.state, &m.memory, &m.tables, &mut image), Ok(()));
-        assert_eq!(image[11..16], [3, 0, 0, 0, 27]);
+        assert_eq!(image[11..16], [3, 0, 0, 0, 28]);
         assert_eq!(image[21 + MEMORY + 128 + 9], 0o040102);
         assert_eq!(image[21 + MEMORY + 128 + 26], held);
-        assert_eq!(image[21 + MEMORY + 128 + 27 + 64], 0o166000);
+        assert_eq!(image[21 + MEMORY + 128 + 28 + 64], 0o166000);
         let mut again = Machine::new(&[], &[], &[]);
         again.memory.fill(0o125252);
         again.tables.fill(0o125252);
@@ -320,11 +320,11 @@ fn images() {
         assert_eq!(owned.control(Control::PgsHeld), held);
         assert_eq!(owned.write(), Ok(image));
     }
-    assert_eq!(IMAGE_EXTRA, 432);
+    assert_eq!(IMAGE_EXTRA, 689);
 }
 
-/// Entries of kind 3. One of 26 words, as written before there were 27, leaves the last 0; of 27 it is the image's; two
-/// or more of it are refused 2, and an entry beyond 27 is refused 6.
+/// Entries of kind 3. One of 26 words, as written before there were 27, leaves word 26 as 0; of 27 it is the image's; 2
+/// or more in it is refused 2. Word 27 and images of 28 words are in extended.rs.
 #[test]
 fn control_words_of_images() {
     let mut control = [0; 27];
@@ -353,9 +353,6 @@ fn control_words_of_images() {
     for word in [2, 3, 0o100000, 0o177777] {
         assert_eq!(loaded(&image_of(26, &[word])), Err(Refusal::State));
     }
-    for (start, len) in [(0, 28), (26, 2), (27, 1)] {
-        let image = image_of(start, &vec![0; len]);
-        assert_eq!(loaded(&image), Err(Refusal::Target));
-    }
-    assert_eq!(loaded(&image_of(27, &[])), Ok(State::new()));
+    let both = words(STATE_WORDS, &[(HELD, 1), (HELD + 1, 1)]);
+    assert_eq!(loaded(&image_of(26, &[1, 1])), Ok(state(&both)));
 }

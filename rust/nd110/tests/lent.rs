@@ -8,9 +8,11 @@ use nd110::{
     write,
 };
 
-// State words: registers at 8 * level + number, control words from 128 on, sixteen PCRs, and last whether PGS is held.
+// State words: registers at 8 * level + number, control words from 128 on, sixteen PCRs, then whether PGS is held and
+// the extended flag.
 const P_0: usize = 2;
 const A_0: usize = 5;
+const T_0: usize = 6;
 const LEVEL: usize = 128;
 const INTERRUPTS: usize = 129;
 const PAGING: usize = 130;
@@ -19,14 +21,19 @@ const PID: usize = 132;
 const PGS: usize = 137;
 const PCR: usize = 138;
 const HELD: usize = 154;
+const EXTENDED: usize = 155;
 
 const TRA_PGS: u16 = 0o150003;
+const SEX: u16 = 0o150406;
+const REX: u16 = 0o150407;
+/// The first code of the class that goes by physical address, T and X: displacement in bits 5-3, operation in 2-0.
+const BY_T_AND_X: u16 = 0o143300;
 
 /// The bits that a control word may have, by document 01: level, interrupts on, paging on, stopped, PID, PIE, PVL, IID,
-/// IIE, PGS, then sixteen PCRs, and by document 02, card 3, whether PGS is held. A word is in range if it has no other
-/// bit.
-const CONTROL_BITS: [u16; 27] = {
-    let mut bits = [0o003603; 27];
+/// IIE, PGS, then sixteen PCRs, and by document 02, cards 3 and 4, whether PGS is held and the extended flag. A word is
+/// in range if it has no other bit.
+const CONTROL_BITS: [u16; 28] = {
+    let mut bits = [0o003603; 28];
     let first = [
         0o17, 1, 1, 1, 0o177777, 0o177777, 0o17, 0o3776, 0o3776, 0o140377,
     ];
@@ -36,6 +43,7 @@ const CONTROL_BITS: [u16; 27] = {
         at += 1;
     }
     bits[26] = 1;
+    bits[27] = 1;
     bits
 };
 
@@ -78,9 +86,9 @@ impl Pieces {
         }
     }
 
-    /// Any words, one in sixteen of memory TRA PGS; control words in range, paging mostly on, most levels on ring 3;
-    /// entries that mostly permit all, in pages that are there. One in sixteen has 64 pages, so that it can go on with
-    /// paging off.
+    /// Any words, of sixteen in memory one TRA PGS, two SEX or REX, one by T and X; control words in range, paging
+    /// mostly on, most levels on ring 3, a T of 0 on every second; entries of the machine's mode that mostly permit
+    /// all, in pages that are there. One in sixteen has 64 pages, so that it can go on with paging off.
     fn random(random: &mut Random) -> Pieces {
         let pages = match random.below(16) {
             0 => 64,
@@ -90,10 +98,16 @@ impl Pieces {
         m.state.0.fill_with(|| random.word());
         m.memory.fill_with(|| match random.below(16) {
             0 => TRA_PGS,
+            1 => SEX,
+            2 => REX,
+            3 => BY_T_AND_X + random.below(64),
             _ => random.word(),
         });
         for sts in m.state.0[..LEVEL].iter_mut().step_by(8) {
             *sts &= 0o377;
+        }
+        for t in m.state.0[..LEVEL].iter_mut().skip(T_0).step_by(16) {
+            *t = 0;
         }
         for (word, bits) in m.state.0[LEVEL..].iter_mut().zip(CONTROL_BITS) {
             *word &= bits;
@@ -103,10 +117,19 @@ impl Pieces {
         }
         m.state.0[PAGING] |= random.below(2);
         m.state.0[STOPPED] = 0;
-        for entry in &mut m.tables {
+        for entry in m.tables.chunks_mut(1 + usize::from(m.state.0[EXTENDED])) {
             let permits = [7, 7, 7, random.below(8)][usize::from(random.below(4))];
             let ring = [0, 0, 0, random.below(4)][usize::from(random.below(4))];
-            *entry = permits << 13 | ring << 9 | random.below(pages);
+            let (tests, page) = (permits << 13 | ring << 9, random.below(pages));
+            match entry {
+                [word] => *word = tests | page,
+                // with bits 8-0 and 15-14, which mean nothing there
+                [first, second] => {
+                    *first = tests | random.below(512);
+                    *second = random.below(4) << 14 | page;
+                }
+                _ => unreachable!("one word or two"),
+            }
         }
         m
     }
@@ -148,6 +171,8 @@ struct Three {
     plain: Pieces,
     lent: Pieces,
     owned: Machine,
+    /// The mode that its page tables are made for.
+    mode: u16,
 }
 
 /// What a run had in it.
@@ -164,6 +189,10 @@ struct Seen {
     late: u32,
     /// Steps that released it.
     released: u32,
+    /// Steps in extended mode, and those that set the extended flag, that cleared it.
+    extended: u32,
+    set: u32,
+    cleared: u32,
 }
 
 impl Three {
@@ -171,6 +200,7 @@ impl Three {
         Three {
             lent: start.clone(),
             owned: start.owned(),
+            mode: start.state.0[EXTENDED],
             plain: start,
         }
     }
@@ -194,6 +224,7 @@ impl Three {
         seen.stores += u32::from(was.memory != self.plain.memory);
         seen.tables += u32::from(was.tables != self.plain.tables);
         self.held(&was, seen, interrupt);
+        self.extended(&was, seen, interrupt);
         interrupt
     }
 
@@ -218,6 +249,28 @@ impl Three {
         }
     }
 
+    /// By document 02, card 4: a step that changes the extended flag gives no interrupt and changes nothing else but P,
+    /// the ring and marks, which its fetch may.
+    fn extended(&self, was: &Pieces, seen: &mut Seen, interrupt: u16) {
+        let (mut before, after) = (was.state.0, self.plain.state.0);
+        seen.extended += u32::from(before[EXTENDED]);
+        if after[EXTENDED] == before[EXTENDED] {
+            return;
+        }
+        match after[EXTENDED] {
+            0 => seen.cleared += 1,
+            _ => seen.set += 1,
+        }
+        let level = usize::from(before[LEVEL]);
+        before[EXTENDED] = after[EXTENDED];
+        before[8 * level + P_0] = before[8 * level + P_0].wrapping_add(1);
+        assert!(after[PCR + level] <= before[PCR + level]);
+        before[PCR + level] = after[PCR + level];
+        assert_eq!(after, before);
+        assert_eq!(interrupt, 0);
+        assert!(was.memory == self.plain.memory, "memory");
+    }
+
     /// A state word stored by the host.
     fn store(&mut self, at: usize, word: u16) {
         self.plain.state.0[at] = word;
@@ -226,7 +279,8 @@ impl Three {
     }
 
     /// What a host does between two steps: now and then a raise, of a level that may be refused, or PGS held or not,
-    /// and rarely other levels pending. A machine that has stopped or given an interrupt goes on elsewhere.
+    /// and rarely other levels pending. A machine that has stopped or given an interrupt goes on elsewhere, mostly in
+    /// its first mode.
     fn host(&mut self, random: &mut Random, seen: &mut Seen, interrupt: u16) {
         if random.below(16) == 0 {
             let level = random.below(17);
@@ -247,6 +301,7 @@ impl Three {
         if (stopped || interrupt != 0) && random.below(4) != 0 {
             let level = usize::from(self.plain.state.0[LEVEL]);
             self.store(STOPPED, 0);
+            self.store(EXTENDED, self.mode);
             self.store(8 * level + P_0, random.word());
         }
     }
@@ -292,11 +347,17 @@ fn random_machines() {
         ("stores to page tables", seen.tables),
         ("faults that PGS took", seen.taken),
         ("faults that found it held", seen.late),
+        ("steps in extended mode", seen.extended),
     ] {
         assert!(count > 1000, "{count} {what}");
     }
-    let released = seen.released;
-    assert!(released > 100, "{released} steps that released PGS");
+    for (what, count) in [
+        ("released PGS", seen.released),
+        ("set the extended flag", seen.set),
+        ("cleared it", seen.cleared),
+    ] {
+        assert!(count > 100, "{count} steps that {what}");
+    }
 }
 
 /// Both lent calls are refused with this number, whichever level a raise names, and each leaves every word.
@@ -313,16 +374,17 @@ fn refused(m: &mut Pieces, was: &Pieces, refusal: Refusal) {
 #[test]
 fn sizes() {
     let lengths = [
-        (0, 256),
-        (1, 256),
-        (1023, 256),
-        (1025, 256),
-        (2047, 256),
-        (MEMORY_MOST + 1024, 256),
+        (0, 512),
+        (1, 512),
+        (1023, 512),
+        (1025, 512),
+        (2047, 512),
+        (MEMORY_MOST + 1024, 512),
         (2048, 0),
         (2048, 64),
-        (2048, 255),
-        (2048, 257),
+        (2048, 256),
+        (2048, 511),
+        (2048, 513),
         (0, 0),
     ];
     for (memory, tables) in lengths {
@@ -358,8 +420,8 @@ fn control_words() {
             }
         }
     }
-    // 4 + 3 + 32 + 4 + 20 + 10 of the first ten words, 6 of each PCR, 1 of the last
-    assert_eq!(taken, starts.len() * (73 + 16 * 6 + 1));
+    // 4 + 3 + 32 + 4 + 20 + 10 of the first ten words, 6 of each PCR, 1 of each of the last two
+    assert_eq!(taken, starts.len() * (73 + 16 * 6 + 2));
 }
 
 /// An STS of 256 or more, on each level, whichever runs.
@@ -445,20 +507,20 @@ const IMAGE: [u16; 17] = [
 /// Sizes that the engine takes are those that a machine can have.
 #[test]
 fn machine_sizes() {
-    for pages in [0, 513, 514, usize::MAX / 1024, usize::MAX] {
+    for pages in [0, 16_385, 16_386, usize::MAX / 1024, usize::MAX] {
         assert_eq!(Machine::new(pages), Err(Refusal::Sizes));
         assert_eq!(Machine::load(&IMAGE, pages), Err(Refusal::Sizes));
         assert_eq!(Machine::load(&[], pages), Err(Refusal::Sizes));
     }
-    for pages in [1, 2, 511, 512] {
+    for pages in [1, 2, 512, 513, 16_383, 16_384] {
         let mut machine = Machine::new(pages).unwrap();
         assert_eq!(*machine.state(), State::new());
         assert_eq!(machine.memory().len(), pages * 1024);
         assert!(machine.memory().iter().all(|word| *word == 0));
-        assert_eq!(*machine.tables(), [0; 256]);
+        assert_eq!(*machine.tables(), [0; 512]);
         assert_eq!(machine.step(), Ok(0));
     }
-    let mut m = Pieces::new(513);
+    let mut m = Pieces::new(16_385);
     assert_eq!(m.step(), Err(Refusal::Sizes));
 }
 
@@ -480,7 +542,7 @@ fn machine_by_hand() {
     assert_eq!(machine.control(Control::Stopped), 1);
     assert_eq!(machine.run(10), Ok((0, Reason::Stopped)));
     assert_eq!(machine.view(Target::Memory, 1, 2).unwrap(), &IMAGE[12..14]);
-    assert_eq!(machine.view(Target::Tables, 255, 2), Err(Refusal::View));
+    assert_eq!(machine.view(Target::Tables, 511, 2), Err(Refusal::View));
 }
 
 /// What the host stores is what a call finds, and a state out of range is refused and kept.
@@ -488,7 +550,7 @@ fn machine_by_hand() {
 fn machine_stores() {
     let mut machine = Machine::new(1).unwrap();
     machine.memory_mut()[1023] = 0o170405;
-    machine.tables_mut()[255] = 0o111111;
+    machine.tables_mut()[511] = 0o111111;
     machine.state_mut().0[3 * 8 + P_0] = 1023;
     machine.state_mut().0[LEVEL] = 3;
     machine.state_mut().0[PCR + 3] = 0o203;
@@ -496,7 +558,7 @@ fn machine_stores() {
     assert_eq!(machine.register(3, Register::P), 1024);
     assert_eq!(machine.register(3, Register::A), 5);
     assert_eq!(machine.pcr(3), 0o203);
-    assert_eq!(machine.tables()[255], 0o111111);
+    assert_eq!(machine.tables()[511], 0o111111);
     machine.state_mut().0[LEVEL] = 16;
     let was = machine.clone();
     assert_eq!(machine.step(), Err(Refusal::State));
@@ -556,6 +618,8 @@ fn same_image(m: &Pieces, machine: &Machine) {
     }
     assert_eq!(machine.control(Control::Pgs), machine.state().0[PGS]);
     assert_eq!(machine.control(Control::PgsHeld), machine.state().0[HELD]);
+    let extended = machine.control(Control::Extended);
+    assert_eq!(extended, machine.state().0[EXTENDED]);
 }
 
 /// Short, and of a state out of range too.
