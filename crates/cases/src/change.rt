@@ -11,7 +11,7 @@ fn set(to: &mut [u16], i: usize, v: u16) {
     }
 }
 
-// One word: below 256 registers and control words, below 1,024 page tables from 512 on, then memory.
+// One word: registers, control words and devices first, below 1,024 page tables from 512 on, then memory.
 fn change(flat: &mut [u16; STATE_WORDS], mem: &mut [u16], tables: &mut [u16], at: usize, v: u16) {
     if at < STATE_WORDS {
         flat[at] = v;

@@ -14,6 +14,7 @@ use crate::numbers::wide;
 use crate::numbers::within;
 use crate::operation::act;
 use crate::show::show;
+use isa::constant::FIRST_DEVICE;
 use isa::constant::STATE_WORDS;
 
 mod answer;
@@ -24,14 +25,15 @@ mod numbers;
 mod operation;
 mod show;
 
-// The extended flag among a state's words: the last.
-const EXTENDED: usize = STATE_WORDS - 1;
+// The extended flag among a state's words: the last control word.
+const EXTENDED: usize = FIRST_DEVICE - 1;
 
-// Whether a case starts from the base machine of extended mode: its operation's number has 8 more then.
+// Whether a case starts from the base machine of extended mode: its operation's number has 8 more then, below 16 or
+// above.
 fn extended(words: &[u64], at: usize) -> u16
     ensures { λ x. ⌜ x ≤ 1 ⌝ }
 {
-    if get(words, at, 1) < 8 {
+    if get(words, at, 1) % 16 < 8 {
         return 0;
     }
     1

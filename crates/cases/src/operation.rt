@@ -9,13 +9,17 @@ use crate::show::sum;
 use image_load::bodies::state_in;
 use isa::answer::Answer;
 use isa::answer::RunAnswer;
+use isa::answer::SentAnswer;
 use isa::answer::StepAnswer;
 use isa::answer::Target;
 use isa::constant::PAGE_WORDS;
 use isa::constant::STATE_WORDS;
 use isa::machine::State;
 use isa::number::answer_number;
+use isa::number::character_sent_of;
 use isa::number::reason_number;
+use isa::number::sent_number;
+use operations::input::InputRunResult;
 use operations::runs::RunResult;
 
 // An answer that tells no more, and the state that is left.
@@ -151,6 +155,116 @@ fn write_load(s: State, mem: &mut [u16], tables: &mut [u16], out: &mut [u16]) ->
     }
 }
 
+// What the devices are handed between steps.
+fn device(s: State, n: u64, w: u64, mem: &[u16], tables: &[u16]) -> Told {
+    if n == 0 {
+        let r = operations::device::tick(s, mem, tables);
+        let after = r.state;
+        let a = r.answer;
+        return answered(a, after);
+    }
+    if n == 1 {
+        let r = operations::device::type_character(s, (w % 256) as u8, mem, tables);
+        let after = r.state;
+        let a = r.answer;
+        return answered(a, after);
+    }
+    let r = operations::device::read_out(s, mem, tables);
+    let after = r.state;
+    let sent = r.answer;
+    Told {
+        refusal: sent_number(sent) as u64,
+        first: character_told(sent),
+        second: 0,
+        state: after,
+    }
+}
+
+// The character, or 256 for none; 0 beside a refusal.
+fn character_told(a: SentAnswer) -> u64 {
+    if sent_number(a) != 0 {
+        return 0;
+    }
+    character_sent_of(a) as u64
+}
+
+// The most inputs of a case.
+const MOST_INPUTS: usize = 20;
+
+// A case's inputs stand behind its first argument, a step and a word each: the steps ..
+fn steps_of(words: &[u64], at: usize, to: &mut [u64]) {
+    let mut i = 0;
+    let mut k: usize = 6;
+    while i < to.len() {
+        to[i] = get(words, at, k);
+        k = std::num::wrapping_add_usize(k, 2);
+        i += 1;
+    }
+}
+
+// .. and the words.
+fn inputs_of(words: &[u64], at: usize, to: &mut [u16]) {
+    let mut i = 0;
+    let mut k: usize = 7;
+    while i < to.len() {
+        to[i] = low(get(words, at, k));
+        k = std::num::wrapping_add_usize(k, 2);
+        i += 1;
+    }
+}
+
+// A run with device input; with its reason is told the checksum of what the inputs handed in were told.
+fn input_told(r: InputRunResult, told: &[u16]) -> Told {
+    let after = r.state;
+    let a = r.answer;
+    match a {
+        RunAnswer::Ran(n, reason) => {
+            let handed = within(r.handed as u64, told);
+            Told {
+                refusal: 0,
+                first: reason_number(reason) as u64 + 8 * sum(&told[..handed]),
+                second: n,
+                state: after,
+            }
+        }
+        RunAnswer::Refused(x) => answered(Answer::Refused(x), after),
+    }
+}
+
+fn input_run(
+    s: State,
+    words: &[u64],
+    at: usize,
+    mem: &mut [u16],
+    tables: &mut [u16],
+    told: &mut [u16],
+) -> Told {
+    let mut steps = [0u64; MOST_INPUTS];
+    let mut what = [0u16; MOST_INPUTS];
+    steps_of(words, at, &mut steps);
+    inputs_of(words, at, &mut what);
+    let count = within(get(words, at, 4) / 2, told);
+    let n = get(words, at, 5);
+    let r = operations::input::run_with_input(s, mem, tables, n, &steps, &what, &mut told[..count]);
+    input_told(r, told)
+}
+
+// A case's operation on the devices, by its number less 16.
+fn act_device(
+    s: State,
+    words: &[u64],
+    at: usize,
+    mem: &mut [u16],
+    tables: &mut [u16],
+    out: &mut [u16],
+) -> Told {
+    let n = get(words, at, 1) % 8;
+    if n == 3 {
+        return input_run(s, words, at, mem, tables, out);
+    }
+    device(s, n, get(words, at, 5), mem, tables)
+}
+
 // A case's operation, by its number.
 pub(crate) fn act(
     words: &[u64],
@@ -163,6 +277,9 @@ pub(crate) fn act(
     let s = state_in(flat);
     let a = get(words, at, 5);
     let n = within(a, out);
+    if 15 < get(words, at, 1) {
+        return act_device(s, words, at, mem, tables, out);
+    }
     match get(words, at, 1) % 8 {
         0 => step(s, mem, tables),
         1 => ran(operations::runs::through(s, mem, tables, a)),

@@ -74,7 +74,7 @@ fn running(s: State) {
     }
 }
 
-// Of the control words in image order.
+// Of the control words and the devices' words in image order.
 fn control_sum(s: State) -> u64
     ensures { λ r. ⌜ r < 4294967291 ⌝ }
 {
@@ -82,11 +82,12 @@ fn control_sum(s: State) -> u64
     let k = s.control_words();
     let scalars = image_write::scalars_of(s.level, k);
     let added = image_write::added_of(k);
-    sum_on(sum_on(sum(&scalars), &pcrs), &added)
+    let devices = image_write::devices_of(s.devices);
+    sum_on(sum_on(sum_on(sum(&scalars), &pcrs), &added), &devices)
 }
 
-// Refusal, answers, checksums of registers, control words, page tables and memory, then level and registers of the
-// running level.
+// Refusal, answers, checksums of registers, control words with devices, page tables and memory, then level and
+// registers of the running level.
 pub(crate) fn show(told: Told, mem: &[u16], tables: &[u16]) {
     let s = told.state;
     let regs = s.regs;

@@ -1,18 +1,16 @@
--- Tests of all PCRs and of all STS, by the bits of all together; the levels of devices.
+-- Tests of all PCRs and of all STS, by the bits of all together.
 -- Assumes nothing.
-use Prim.Native.Nat.{ℕ, zero, suc, _*_, _/_, _%_, _^_, _<_, _≤_}
+use Prim.Native.Nat.{ℕ, zero, suc, _*_, _/_, _%_, _^_, _≤_}
 use mathlib.Core.Path.{_≡_, refl, sym, ap, _∙_}
-use mathlib.Core.Bool.{Bool, true, false, _&&_, _||_, and-true, and-false, and-assoc, and-comm}
+use mathlib.Core.Bool.{Bool, true, false, _&&_, and-true, and-false, and-assoc, and-comm}
 use mathlib.Core.List.{List}
 use native.Mathlib.Omega.{arith}
 use lib.Bits.{bitOr, or-zero-l, or-lt, or-add-and, or-shr, or-mod, and-le-l, and-le-r}
 use lib.ListN.{getD, drop, length, drop-of-length-le}
 use lib.Seq.{drop-cons}
-use lib.Dec.{ltb, leb, eqb}
-use borrow.Author.Tests.{ltb-true, ltb-false, leb-true, eqb-true, lt-ltb, le-ltb, ne-eqb}
+use lib.Dec.{ltb, eqb}
+use borrow.Author.Tests.{ltb-true, ltb-false, lt-ltb, le-ltb, ne-eqb}
 use Rattle.isa.specs.Machine.{levelCount, pcrBits, allPcrBits, flagsFit}
-use Rattle.isa.specs.Answers.{deviceLevel}
-use Rattle.isa.proofs.Tests.{no-both}
 use Rattle.checks.specs.Bits.{bitsOf}
 
 -- ---- a test of the bits of two numbers together is the test of both
@@ -85,13 +83,3 @@ flags-by-bits (suc n) b =
     below-both 8 (bitsOf n 8 b) (getD b (n * 8) 0)
     ∙ ap (λ (x : Bool). x && ltb (getD b (n * 8) 0) 256) (flags-by-bits n b)
     ∙ and-comm (flagsFit n b) (ltb (getD b (n * 8) 0) 256)
-
--- the levels of devices are levels
-pub device-level : (l : ℕ) → deviceLevel l ≡ true → l < levelCount
-device-level l h = go (leb 10 l) (leb l 13) (eqb l 15) refl refl h
-  where
-    go : (x y z : Bool) → leb l 13 ≡ y → eqb l 15 ≡ z → (x && y || z) ≡ true → l < levelCount
-    go x y true q r e = omega (arith, eqb-true l 15 r)
-    go x true false q r e = omega (arith, leb-true l 13 q)
-    go true false false q r e = absurd (no-both e)
-    go false false false q r e = absurd (no-both e)

@@ -1,6 +1,6 @@
 // Tests of what callers hand in: the sizes of lent words, and the ranges of a state.
 ghost use mathlib.Core.Path.{_≡_};
-ghost use mathlib.Core.Bool.{true, _&&_};
+ghost use mathlib.Core.Bool.{_&&_};
 ghost use Prim.Native.Nat.{_*_, _<_};
 ghost use lib.Dec.{ltb};
 ghost use lib.ListN.{length};
@@ -8,17 +8,24 @@ ghost use Rattle.isa.specs.Machine.{memorySize, sizesFit, interruptBits, pcrBit
 ghost use Rattle.isa.specs.Machine.{controlInRange};
 ghost use Rattle.isa.specs.Machine.{levelCount, registerWords, allPcrBits, flagsFit, inRange, stateWith};
 ghost use Rattle.checks.specs.Bits.{bitsOf};
-ghost use Rattle.isa.specs.Answers.{stateAnswer, deviceLevel, raised};
-use arithmetic::bits::with_bit;
+ghost use Rattle.isa.specs.Devices.{clockInRange, inputInRange, outputInRange, devicesInRange};
+ghost use Rattle.isa.specs.Answers.{stateAnswer};
+ghost use Rattle.checks.specs.Ranges.{behindInRange, marksInRange};
 use isa::answer::Answer;
 use isa::answer::Refusal;
+use isa::constant::CHARACTER_RANGE;
 use isa::constant::FILE_SIZE;
 use isa::constant::LARGEST_MEMORY;
+use isa::constant::LENGTH_RANGE;
 use isa::constant::LEVEL_COUNT;
 use isa::constant::LEVELS;
 use isa::constant::PAGE_WORDS;
 use isa::constant::STATUS_RANGE;
 use isa::constant::TABLE_WORDS;
+use isa::device::Clock;
+use isa::device::Devices;
+use isa::device::TerminalInput;
+use isa::device::TerminalOutput;
 use isa::machine::Control;
 use isa::machine::State;
 
@@ -74,26 +81,6 @@ fn pgs_bits(w: u16) -> bool
     w / 256 % 64 == 0
 }
 
-// Paging on, stopped: 0 or 1.
-fn modes_fit(c: Control) -> bool
-    ensures { λ r. ⌜ r ≡ (ltb (c .paging) 2 && ltb (c .stopped) 2) ⌝ }
-{
-    if c.paging < 2 {
-        return c.stopped < 2;
-    }
-    false
-}
-
-// Interrupts on, paging on, stopped: 0 or 1.
-fn switches_fit(c: Control) -> bool
-    ensures { λ r. ⌜ r ≡ (ltb (c .interrupts) 2 && ltb (c .paging) 2 && ltb (c .stopped) 2) ⌝ }
-{
-    if c.interrupts < 2 {
-        return modes_fit(c);
-    }
-    false
-}
-
 // The paging status: PGS, and whether it is held, 0 or 1.
 fn status_fits(c: Control) -> bool
     ensures { λ r. ⌜ r ≡ statusInRange c ⌝ }
@@ -104,42 +91,87 @@ fn status_fits(c: Control) -> bool
     false
 }
 
-// The paging status and the extended flag, 0 or 1.
+// Three switches, 0 or 1.
+fn three_fit(a: u16, b: u16, c: u16) -> bool
+    ensures { λ r. ⌜ r ≡ (ltb a 2 && ltb b 2 && ltb c 2) ⌝ }
+{
+    if a < 2 {
+        if b < 2 {
+            return c < 2;
+        }
+    }
+    false
+}
+
+// The words of each device.
+fn clock_fits(x: Clock) -> bool
+    ensures { λ r. ⌜ r ≡ clockInRange x ⌝ }
+{
+    three_fit(x.enabled, x.ready, x.asks)
+}
+
+fn input_fits(x: TerminalInput) -> bool
+    ensures { λ r. ⌜ r ≡ inputInRange x ⌝ }
+{
+    if three_fit(x.enabled, x.unread, x.asks) {
+        if x.character < CHARACTER_RANGE {
+            return x.length < LENGTH_RANGE;
+        }
+    }
+    false
+}
+
+fn output_fits(x: TerminalOutput) -> bool
+    ensures { λ r. ⌜ r ≡ outputInRange x ⌝ }
+{
+    if three_fit(x.enabled, x.waits, x.asks) {
+        return x.character < CHARACTER_RANGE;
+    }
+    false
+}
+
+fn devices_fit(d: Devices) -> bool
+    ensures { λ r. ⌜ r ≡ devicesInRange d ⌝ }
+{
+    let clock = d.clock;
+    let input = d.input;
+    let output = d.output;
+    if clock_fits(clock) {
+        if input_fits(input) {
+            return output_fits(output);
+        }
+    }
+    false
+}
+
+// The paging status, the extended flag, 0 or 1, and the devices.
 fn behind_fits(c: Control) -> bool
-    ensures { λ r. ⌜ r ≡ (statusInRange c && ltb (c .extended) 2) ⌝ }
+    ensures { λ r. ⌜ r ≡ behindInRange c ⌝ }
 {
+    let d = c.devices;
     if status_fits(c) {
-        return c.extended < 2;
+        if c.extended < 2 {
+            return devices_fit(d);
+        }
     }
     false
 }
 
-// IIE, the paging status and the extended flag.
-fn masks_fit(c: Control) -> bool
-    ensures { λ r. ⌜ r ≡ (interruptBits (c .iie) && statusInRange c && ltb (c .extended) 2) ⌝ }
-{
-    if interrupt_bits(c.iie) {
-        return behind_fits(c);
-    }
-    false
-}
-
-// IID, IIE, the paging status and the extended flag.
+// IID and IIE, and what is behind them.
 fn registers_fit(c: Control) -> bool
-    ensures { λ r. ⌜ r ≡ (interruptBits (c .iid) && interruptBits (c .iie) && statusInRange c
-        && ltb (c .extended) 2) ⌝ }
+    ensures { λ r. ⌜ r ≡ marksInRange c ⌝ }
 {
     if interrupt_bits(c.iid) {
-        return masks_fit(c);
+        if interrupt_bits(c.iie) {
+            return behind_fits(c);
+        }
     }
     false
 }
 
-// PVL, IID, IIE, the paging status and the extended flag.
+// PVL, IID and IIE, and what is behind them.
 fn numbers_fit(c: Control) -> bool
-    ensures { λ r. ⌜ r
-        ≡ (ltb (c .pvl) levelCount && interruptBits (c .iid) && interruptBits (c .iie) && statusInRange c
-        && ltb (c .extended) 2) ⌝ }
+    ensures { λ r. ⌜ r ≡ (ltb (c .pvl) levelCount && marksInRange c) ⌝ }
 {
     if c.pvl < LEVELS {
         return registers_fit(c);
@@ -147,11 +179,11 @@ fn numbers_fit(c: Control) -> bool
     false
 }
 
-// The control words 1 to 9, 26 and 27.
+// The control words 1 to 9, 26 and 27, and the devices.
 fn control_in_range(c: Control) -> bool
     ensures { λ r. ⌜ r ≡ controlInRange c ⌝ }
 {
-    if switches_fit(c) {
+    if three_fit(c.interrupts, c.paging, c.stopped) {
         return numbers_fit(c);
     }
     false
@@ -263,36 +295,4 @@ pub fn state_answer(s: State, mem: &[u16], tables: &[u16]) -> Answer
 {
     let k = s.control_words();
     parts_answer(s.level, k, &s.regs, &s.pcr, mem, tables)
-}
-
-// The levels that devices raise.
-pub fn device_level(l: u16) -> bool
-    ensures { λ r. ⌜ r ≡ deviceLevel l ⌝ }
-{
-    if l < 10 {
-        return false;
-    }
-    if l <= 13 {
-        return true;
-    }
-    l == 15
-}
-
-// The state with a device level's bit of PID set.
-pub fn raised(s: State, l: u16) -> State
-    requires { ⌜ deviceLevel l ≡ true ⌝ }
-    ensures { λ r. ⌜ r ≡ raised s l ⌝ }
-{
-    let mut c = s.control;
-    let a = s.added;
-    let p = s.pcr;
-    let b = s.regs;
-    c.pid = with_bit(l, 1, c.pid);
-    State {
-        regs: b,
-        level: s.level,
-        control: c,
-        pcr: p,
-        added: a,
-    }
 }

@@ -17,8 +17,10 @@ use checks::answers::first;
 use isa::answer::Answer;
 use isa::answer::Refusal;
 use isa::constant::CONTROL_COUNT;
+use isa::constant::DEVICE_COUNT;
 use isa::constant::ENTRY_SIZE;
 use isa::constant::KIND_CONTROL;
+use isa::constant::KIND_DEVICES;
 use isa::constant::KIND_MEMORY;
 use isa::constant::KIND_REGISTERS;
 use isa::constant::KIND_TABLES;
@@ -32,14 +34,14 @@ fn end(start: u32, count: u32) -> usize
     start as usize + count as usize
 }
 
-// Kinds 1 to 4.
+// Kinds 1 to 5.
 fn known_kind(k: u16) -> bool
     ensures { λ r. ⌜ r ≡ knownKind k ⌝ }
 {
     if k < KIND_MEMORY {
         return false;
     }
-    k <= KIND_TABLES
+    k <= KIND_DEVICES
 }
 
 // A kind's size.
@@ -55,7 +57,10 @@ fn size_of(words: usize, k: u16) -> usize
     if k == KIND_CONTROL {
         return CONTROL_COUNT;
     }
-    TABLE_WORDS
+    if k == KIND_TABLES {
+        return TABLE_WORDS;
+    }
+    DEVICE_COUNT
 }
 
 // Refusals 5 and 6 of an entry, beside so many words of memory.

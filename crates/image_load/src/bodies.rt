@@ -3,24 +3,33 @@ ghost use mathlib.Core.Path.{_≡_};
 ghost use mathlib.Core.Bool.{cond};
 ghost use mathlib.Core.List.{[]};
 ghost use Prim.Native.Nat.{_+_, _≤_};
-ghost use lib.ListN.{length, getD, take, drop};
+ghost use lib.ListN.{length, getD, drop};
 ghost use lib.Seq.{paste};
 ghost use lib.Dec.{eqb};
-ghost use Rattle.isa.specs.Machine.{registerWords, stateWords, controlCount, controlOf, stateOf};
-ghost use Rattle.isa.specs.Images.{kindRegisters, kindControl, contents, bodies, placed, loadedWords, loadedState};
+ghost use Rattle.isa.specs.Devices.{deviceCount, devicesOf};
+ghost use Rattle.isa.specs.Machine.{registerWords, stateWords, controlCount, controlOf, stateOf, stateIn};
+ghost use Rattle.isa.specs.Images.{kindRegisters, kindControl, kindDevices, contents, bodies, placed, loadedWords};
+ghost use Rattle.isa.specs.Images.{loadedState};
 ghost use Rattle.image_load.specs.Placing.{Placeable};
 use image_directory::entry::Span;
 use image_directory::entry::entry_at;
 use image_directory::entry::entry_count;
 use image_directory::entry::wide;
 use isa::constant::CONTROL_COUNT;
+use isa::constant::DEVICE_COUNT;
 use isa::constant::ENTRY_SIZE;
 use isa::constant::FIRST_ADDED;
+use isa::constant::FIRST_DEVICE;
 use isa::constant::FIRST_PCR;
 use isa::constant::KIND_CONTROL;
+use isa::constant::KIND_DEVICES;
 use isa::constant::KIND_REGISTERS;
 use isa::constant::LEVEL_COUNT;
 use isa::constant::REGISTER_WORDS;
+use isa::device::Clock;
+use isa::device::Devices;
+use isa::device::TerminalInput;
+use isa::device::TerminalOutput;
 use isa::machine::Control;
 use isa::machine::Pcrs;
 use isa::machine::RegisterWords;
@@ -71,13 +80,43 @@ pub fn fill(kind: u16, image: &[u16], target: &mut [u16])
     place(kind, image, n, target);
 }
 
-// Control words in image order.
+// Control words and devices' words in image order.
 pub type ControlWords = [u16; CONTROL_COUNT];
 
-// Control words 1 to 9, 26 and 27, of all control words in image order.
-pub fn control_of(words: &[u16]) -> Control
+pub type DeviceWords = [u16; DEVICE_COUNT];
+
+// The devices of their words.
+fn devices_of(words: &[u16]) -> Devices
+    requires { ⌜ length (now words) ≡ deviceCount ⌝ }
+    ensures { λ d. ⌜ d ≡ devicesOf (now (words .entry)) ⌝ }
+{
+    Devices {
+        clock: Clock {
+            enabled: words[0],
+            ready: words[1],
+            asks: words[2],
+        },
+        input: TerminalInput {
+            enabled: words[3],
+            unread: words[4],
+            asks: words[5],
+            character: words[6],
+            length: words[7],
+        },
+        output: TerminalOutput {
+            enabled: words[8],
+            waits: words[9],
+            asks: words[10],
+            character: words[11],
+        },
+    }
+}
+
+// Control words 1 to 9, 26 and 27, and the devices, of all control words and devices' words in image order.
+pub fn control_of(words: &[u16], devices: &[u16]) -> Control
     requires { ⌜ length (now words) ≡ controlCount ⌝ }
-    ensures { λ k. ⌜ k ≡ controlOf (stateOf [] (now (words .entry))) ⌝ }
+    requires { ⌜ length (now devices) ≡ deviceCount ⌝ }
+    ensures { λ k. ⌜ k ≡ controlOf (stateOf [] (now (words .entry)) (now (devices .entry))) ⌝ }
 {
     Control {
         interrupts: words[1],
@@ -91,49 +130,55 @@ pub fn control_of(words: &[u16]) -> Control
         pgs: words[9],
         held: words[FIRST_ADDED],
         extended: words[FIRST_ADDED + 1],
+        devices: devices_of(devices),
     }
 }
 
 // The PCRs, of all control words in image order.
 pub fn pcrs_of(words: &[u16]) -> Pcrs
     requires { ⌜ length (now words) ≡ controlCount ⌝ }
-    ensures { λ p. ⌜ p ≡ stateOf [] (now (words .entry)) .pcr ⌝ }
+    ensures { λ p. ⌜ p ≡ stateOf [] (now (words .entry)) [] .pcr ⌝ }
 {
     let mut pcrs = [0u16; LEVEL_COUNT];
     copy(&mut pcrs, 0, words, FIRST_PCR, LEVEL_COUNT);
     pcrs
 }
 
-// The state of registers and control words in image order.
-pub fn state_of(regs: RegisterWords, words: ControlWords) -> State
-    ensures { λ s. ⌜ s ≡ stateOf regs words ⌝ }
+// The state of registers, control words and devices' words in image order.
+pub fn state_of(regs: RegisterWords, words: ControlWords, devices: DeviceWords) -> State
+    ensures { λ s. ⌜ s ≡ stateOf regs words devices ⌝ }
 {
-    let k = control_of(&words);
+    let k = control_of(&words, &devices);
     let pcrs = pcrs_of(&words);
     State::with(words[0], k, regs, pcrs)
 }
 
-// The state of 156 words in image order: the registers, then the control words.
+// The state of 168 words: the registers, then the control words, then the devices' words, each in image order.
 pub fn state_in(words: &[u16]) -> State
     requires { ⌜ length (now words) ≡ stateWords ⌝ }
-    ensures { λ s. ⌜ s ≡ stateOf (take registerWords (now (words .entry))) (drop registerWords (now (words .entry))) ⌝ }
+    ensures { λ s. ⌜ s ≡ stateIn (now (words .entry)) ⌝ }
 {
     let mut regs = [0u16; REGISTER_WORDS];
     let mut control = [0u16; CONTROL_COUNT];
+    let mut devices = [0u16; DEVICE_COUNT];
     copy(&mut regs, 0, words, 0, REGISTER_WORDS);
     copy(&mut control, 0, words, REGISTER_WORDS, CONTROL_COUNT);
-    state_of(regs, control)
+    copy(&mut devices, 0, words, FIRST_DEVICE, DEVICE_COUNT);
+    state_of(regs, control, devices)
 }
 
 // The state that an image has.
 pub fn loaded_state(image: &[u16]) -> State
     requires { ⌜ Placeable kindRegisters registerWords (now image) ⌝ }
     requires { ⌜ Placeable kindControl controlCount (now image) ⌝ }
+    requires { ⌜ Placeable kindDevices deviceCount (now image) ⌝ }
     ensures { λ s. ⌜ s ≡ loadedState (now (image .entry)) ⌝ }
 {
     let mut regs = [0u16; REGISTER_WORDS];
     let mut words = [0u16; CONTROL_COUNT];
+    let mut devices = [0u16; DEVICE_COUNT];
     fill(KIND_REGISTERS, image, &mut regs);
     fill(KIND_CONTROL, image, &mut words);
-    state_of(regs, words)
+    fill(KIND_DEVICES, image, &mut devices);
+    state_of(regs, words, devices)
 }

@@ -1,8 +1,9 @@
 // An image tested, then stored.
 ghost use mathlib.Core.Path.{_≡_};
 ghost use lib.ListN.{length};
+ghost use Rattle.isa.specs.Devices.{deviceCount};
 ghost use Rattle.isa.specs.Machine.{registerWords, controlCount};
-ghost use Rattle.isa.specs.Images.{kindRegisters, kindControl, loadedState, loadedWords};
+ghost use Rattle.isa.specs.Images.{kindRegisters, kindControl, kindDevices, loadedState, loadedWords};
 ghost use Rattle.isa.specs.declared.answer.Answer.the-variants.{Done};
 ghost use Rattle.image_load.specs.Placing.{Placeable};
 ghost use Rattle.image_load.specs.Loading.{imageAnswer, rangeAnswer, byAnswer};
@@ -42,7 +43,7 @@ pub fn range_answer(s: State) -> Answer
 // The state that an image has, unless it is refused.
 pub fn image_state(a: Answer, s: State, image: &[u16]) -> State
     requires { ⌜ (a ≡ Done → Placeable kindRegisters registerWords (now image)
-        × Placeable kindControl controlCount (now image)) ⌝ }
+        × (Placeable kindControl controlCount (now image) × Placeable kindDevices deviceCount (now image))) ⌝ }
     ensures { λ r. ⌜ r ≡ byAnswer a (loadedState (now (image .entry))) s ⌝ }
 {
     match a {

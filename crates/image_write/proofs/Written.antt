@@ -1,6 +1,7 @@
 -- The image's words one after the other, and what write answers.
 -- Assumes nothing.
-use Rattle.isa.specs.Machine.{stateWords, largestMemory, tableWords}
+use Rattle.isa.specs.Machine.{firstDevice, largestMemory, tableWords}
+use Rattle.isa.specs.Devices.{deviceCount, deviceWords}
 use Prim.Native.Nat.{ℕ, _+_, _≤_, _<_}
 use mathlib.Core.Path.{_≡_, refl, sym, ap, _∙_}
 use mathlib.Core.Bool.{Bool, true, false, cond}
@@ -24,42 +25,56 @@ use Rattle.checks.proofs.Passed.{refused-not-done, sizes-of, memory-most, table
 use Rattle.image_write.proofs.Joined.{joined}
 
 -- contents and memory
-pub memory-put : (w m o c d e : List ℕ) (n : ℕ) → length w ≡ 21 → length m ≡ n → c ≡ w → d ≡ paste o 0 c 21
-    → e ≡ paste d 21 m n
+pub memory-put : (w m o c d e : List ℕ) (n : ℕ) → length w ≡ contentsSize → length m ≡ n → c ≡ w
+    → d ≡ paste o 0 c contentsSize
+    → e ≡ paste d contentsSize m n
     → e ≡ (w ++ m) ++ drop (n + contentsSize) o
 memory-put w m o c d e n hw hm hc hd he =
-    let q : 21 + n ≡ n + contentsSize = omega arith in
-    let f : d ≡ w ++ drop 21 o = hd ∙ ap (λ (x : List ℕ). paste o 0 x 21) hc ∙ joined [] w o o 0 21 refl hw refl in
-    he ∙ joined w m o d 21 n hw hm f ∙ ap (λ (x : ℕ). (w ++ m) ++ drop x o) q
+    let q : contentsSize + n ≡ n + contentsSize = omega arith in
+    let f : d ≡ w ++ drop contentsSize o =
+    hd ∙ ap (λ (x : List ℕ). paste o 0 x contentsSize) hc ∙ joined [] w o o 0 contentsSize refl hw refl in
+    he ∙ joined w m o d contentsSize n hw hm f ∙ ap (λ (x : ℕ). (w ++ m) ++ drop x o) q
 
--- where the page tables stand among an image's words beside memory
+-- where the page tables and the devices stand among an image's words beside memory
 abbrev tablePlace : ℕ
-tablePlace = contentsSize + stateWords
+tablePlace = contentsSize + firstDevice
 
--- the image
-pub image-put : (s : State) (m t o d e f : List ℕ) (n : ℕ) → length m ≡ n
-    → length (s .regs ++ controlWords s) ≡ stateWords
+abbrev devicePlace : ℕ
+devicePlace = tablePlace + tableWords
+
+-- the image: registers and control words, page tables, devices' words, each behind what stands there
+pub image-put : (s : State) (m t o d e f g : List ℕ) (n : ℕ) → length m ≡ n
+    → length (s .regs ++ controlWords s) ≡ firstDevice
     → length t ≡ tableWords
     → d ≡ (contentsWords (length m) ++ m) ++ drop (n + contentsSize) o
-    → e ≡ paste d (n + contentsSize) (s .regs ++ controlWords s) stateWords
+    → e ≡ paste d (n + contentsSize) (s .regs ++ controlWords s) firstDevice
     → f ≡ paste e (n + tablePlace) t tableWords
-    → f ≡ imageOf s m t ++ drop (n + besideMemory) o
+    → g ≡ paste f (n + devicePlace) (deviceWords (s .devices)) deviceCount
+    → g ≡ imageOf s m t ++ drop (n + besideMemory) o
 unfolding imageOf
-image-put s m t o d e f n hm hw ht hd he hf =
+image-put s m t o d e f g n hm hw ht hd he hf hg =
     let c : List ℕ = contentsWords (length m) in
     let w : List ℕ = s .regs ++ controlWords s in
+    let v : List ℕ = deviceWords (s .devices) in
     let a : length (c ++ m) ≡ n + contentsSize = length-append c m ∙ omega (arith, hm) in
     let b : length ((c ++ m) ++ w) ≡ n + tablePlace = length-append (c ++ m) w ∙ omega (arith, a, hw) in
-    let p : n + contentsSize + stateWords ≡ n + tablePlace = omega arith in
-    let q : n + tablePlace + tableWords ≡ n + besideMemory = omega arith in
-    let g : e ≡ ((c ++ m) ++ w) ++ drop (n + tablePlace) o =
-    he ∙ joined (c ++ m) w o d (n + contentsSize) stateWords a hw hd ∙ ap (λ (x : ℕ). ((c ++ m) ++ w) ++ drop x o) p in
+    let k : length (((c ++ m) ++ w) ++ t) ≡ n + devicePlace =
+    length-append ((c ++ m) ++ w) t ∙ omega (arith, b, ht) in
+    let p : n + contentsSize + firstDevice ≡ n + tablePlace = omega arith in
+    let q : n + tablePlace + tableWords ≡ n + devicePlace = omega arith in
+    let r : n + devicePlace + deviceCount ≡ n + besideMemory = omega arith in
+    let x : e ≡ ((c ++ m) ++ w) ++ drop (n + tablePlace) o =
+    he ∙ joined (c ++ m) w o d (n + contentsSize) firstDevice a hw hd ∙ ap (λ (z : ℕ). ((c ++ m) ++ w) ++ drop z o) p in
+    let y : f ≡ (((c ++ m) ++ w) ++ t) ++ drop (n + devicePlace) o =
     hf
-    ∙ joined ((c ++ m) ++ w) t o e (n + tablePlace) tableWords b ht g
-    ∙ ap (λ (x : ℕ). (((c ++ m) ++ w) ++ t) ++ drop x o) q
-    ∙ ap (λ (x : List ℕ). x ++ drop (n + besideMemory) o)
-    (append-assoc (c ++ m) w t ∙ append-assoc c m (w ++ t)
-    ∙ ap (λ (x : List ℕ). c ++ (m ++ x)) (append-assoc (s .regs) (controlWords s) t))
+    ∙ joined ((c ++ m) ++ w) t o e (n + tablePlace) tableWords b ht x
+    ∙ ap (λ (z : ℕ). (((c ++ m) ++ w) ++ t) ++ drop z o) q in
+    hg
+    ∙ joined (((c ++ m) ++ w) ++ t) v o f (n + devicePlace) deviceCount k refl y
+    ∙ ap (λ (z : ℕ). ((((c ++ m) ++ w) ++ t) ++ v) ++ drop z o) r
+    ∙ ap (λ (z : List ℕ). z ++ drop (n + besideMemory) o)
+    (append-assoc ((c ++ m) ++ w) t v ∙ append-assoc (c ++ m) w (t ++ v) ∙ append-assoc c m (w ++ (t ++ v))
+    ∙ ap (λ (z : List ℕ). c ++ (m ++ z)) (append-assoc (s .regs) (controlWords s) (t ++ v)))
 
 -- ---- the answer
 

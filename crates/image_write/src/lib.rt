@@ -1,5 +1,6 @@
-// The machine written as an image: contents, then memory, registers, control words and page tables.
-ghost use Rattle.isa.specs.Machine.{largestMemory, levelCount, controlCount, stateWords, tableWords, stateWith};
+// The machine written as an image: contents, then memory, registers, control words, page tables and devices.
+ghost use Rattle.isa.specs.Machine.{largestMemory, levelCount, registerWords, controlCount, tableWords, stateWith};
+ghost use Rattle.isa.specs.Devices.{deviceCount, deviceWords};
 ghost use mathlib.Core.Path.{_≡_};
 ghost use mathlib.Core.List.{[], _++_};
 ghost use Prim.Native.Nat.{_+_, _≤_};
@@ -18,26 +19,30 @@ use isa::constant::ADDED_COUNT;
 use isa::constant::BESIDE_MEMORY;
 use isa::constant::CONTENTS_SIZE;
 use isa::constant::CONTROL_COUNT;
+use isa::constant::DEVICE_COUNT;
 use isa::constant::FIRST_ADDED;
 use isa::constant::FIRST_PCR;
 use isa::constant::KIND_CONTROL;
+use isa::constant::KIND_DEVICES;
 use isa::constant::KIND_MEMORY;
 use isa::constant::KIND_REGISTERS;
 use isa::constant::KIND_TABLES;
 use isa::constant::LEVEL_COUNT;
 use isa::constant::REGISTER_WORDS;
-use isa::constant::STATE_WORDS;
 use isa::constant::TABLE_WORDS;
 use isa::constant::WORD_RANGE;
 use isa::constant::WRITTEN_ENTRIES;
+use isa::device::Devices;
 use isa::machine::Control;
 use isa::machine::State;
 use words::copy;
 
-// Where the page tables stand among an image's words beside memory.
-const TABLE_PLACE: usize = CONTENTS_SIZE + STATE_WORDS;
+// Where the page tables and the devices stand among an image's words beside memory.
+const TABLE_PLACE: usize = CONTENTS_SIZE + REGISTER_WORDS + CONTROL_COUNT;
 
-// Numbers of the list of contents as words: its entries, and the lengths of three of them.
+const DEVICE_PLACE: usize = TABLE_PLACE + TABLE_WORDS;
+
+// Numbers of the list of contents as words: its entries, and the lengths of four of them.
 const COUNT: u16 = WRITTEN_ENTRIES as u16;
 
 const REGISTERS: u16 = REGISTER_WORDS as u16;
@@ -46,10 +51,12 @@ const CONTROLS: u16 = CONTROL_COUNT as u16;
 
 const TABLES: u16 = TABLE_WORDS as u16;
 
+const DEVICES: u16 = DEVICE_COUNT as u16;
+
 // What a word is below, as a size.
 const RANGE: usize = WORD_RANGE as usize;
 
-// The contents of an image of n words of memory: four full entries.
+// The contents of an image of n words of memory: five full entries.
 fn contents(n: usize) -> [u16; CONTENTS_SIZE]
     requires { ⌜ n ≤ largestMemory ⌝ }
     ensures { λ r. ⌜ r ≡ contentsWords n ⌝ }
@@ -78,6 +85,11 @@ fn contents(n: usize) -> [u16; CONTENTS_SIZE]
         0,
         0,
         TABLES,
+        KIND_DEVICES,
+        0,
+        0,
+        0,
+        DEVICES,
     ]
 }
 
@@ -110,6 +122,31 @@ pub fn added_of(k: Control) -> AddedWords
     [k.held, k.extended]
 }
 
+// The devices' words in image order.
+pub type DeviceWords = [u16; DEVICE_COUNT];
+
+pub fn devices_of(d: Devices) -> DeviceWords
+    ensures { λ r. ⌜ r ≡ deviceWords d ⌝ }
+{
+    let clock = d.clock;
+    let input = d.input;
+    let output = d.output;
+    [
+        clock.enabled,
+        clock.ready,
+        clock.asks,
+        input.enabled,
+        input.unread,
+        input.asks,
+        input.character,
+        input.length,
+        output.enabled,
+        output.waits,
+        output.asks,
+        output.character,
+    ]
+}
+
 // Contents and memory, at the front of the output.
 fn put_memory(mem: &[u16], out: &mut [u16])
     requires { ⌜ length (now mem) ≤ largestMemory ⌝ }
@@ -140,14 +177,24 @@ pub fn put_control(level: u16, k: Control, pcrs: &[u16], out: &mut [u16], at: us
 
 // Registers and control words, to the words of the output at `at`.
 pub fn put_state(s: State, out: &mut [u16], at: usize)
-    requires { ⌜ at + stateWords ≤ length (now out) ⌝ }
-    ensures { λ _. ⌜ now (out .exit) ≡ paste (now (out .entry)) at (s .regs ++ controlWords s) stateWords ⌝ }
+    requires { ⌜ at + (registerWords + controlCount) ≤ length (now out) ⌝ }
+    ensures { λ _. ⌜ now (out .exit)
+        ≡ paste (now (out .entry)) at (s .regs ++ controlWords s) (registerWords + controlCount) ⌝ }
 {
     let regs = s.regs;
     let k = s.control_words();
     let pcrs = s.pcr;
     copy(out, at, &regs, 0, REGISTER_WORDS);
     put_control(s.level, k, &pcrs, out, at + REGISTER_WORDS);
+}
+
+// The devices' words, to the words of the output at `at`.
+pub fn put_devices(d: Devices, out: &mut [u16], at: usize)
+    requires { ⌜ at + deviceCount ≤ length (now out) ⌝ }
+    ensures { λ _. ⌜ now (out .exit) ≡ paste (now (out .entry)) at (deviceWords d) deviceCount ⌝ }
+{
+    let words = devices_of(d);
+    copy(out, at, &words, 0, DEVICE_COUNT);
 }
 
 // The image, at the front of the output.
@@ -163,6 +210,8 @@ pub fn put_image(s: State, mem: &[u16], tables: &[u16], out: &mut [u16])
     put_memory(mem, out);
     put_state(s, out, n + CONTENTS_SIZE);
     copy(out, n + TABLE_PLACE, tables, 0, TABLE_WORDS);
+    let d = s.devices;
+    put_devices(d, out, n + DEVICE_PLACE);
 }
 
 // Refusal 10: an output of so many words is too short for an image of so much memory.

@@ -8,6 +8,7 @@ use lib.ListN.{getD, take, drop, length, length-append}
 use lib.Seq.{take-at, drop-at, getD-drop}
 use Rattle.isa.specs.Machine.{levelCount, firstPcr, firstAdded, controlCount, controlOf, addedWords}
 use Rattle.isa.specs.Machine.{controlWords, stateOf}
+use Rattle.isa.specs.Devices.{deviceWords}
 use Rattle.isa.specs.declared.machine.State.{State}
 
 module _ (s : State) (h : length (s .pcr) ≡ levelCount) where
@@ -25,7 +26,7 @@ module _ (s : State) (h : length (s .pcr) ≡ levelCount) where
   word-of-added i =
       sym (getD-drop firstAdded (controlWords s) i 0) ∙ ap (λ (ws : List ℕ). getD ws i 0) added-of-words
 
-  pub state-of-words : stateOf (s .regs) (controlWords s) ≡ s
+  pub state-of-words : stateOf (s .regs) (controlWords s) (deviceWords (s .devices)) ≡ s
   state-of-words =
       λ i. record {
         regs = s .regs;
@@ -33,4 +34,5 @@ module _ (s : State) (h : length (s .pcr) ≡ levelCount) where
         control = s .control;
         pcr = pcrs-of-words i;
         added = record { held = word-of-added 0 i; extended = word-of-added 1 i };
+        devices = s .devices;
       }

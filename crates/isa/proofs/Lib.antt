@@ -10,7 +10,9 @@ pub mod Tables
 pub mod Marks
 pub mod Runs
 pub mod Examples
+pub mod DeviceExamples
 pub mod Packing
 pub mod ControlWords
 pub mod Bits
 pub mod Refusals
+pub mod Devices

@@ -12,17 +12,17 @@ use Rattle.isa.specs.Answers.{refusalNumber}
 use Rattle.isa.specs.declared.answer.Refusal.{Refusal}
 use Rattle.isa.specs.declared.answer.Refusal.the-variants.{Sizes, State as StateRange, RaiseLevel, Contents}
 use Rattle.isa.specs.declared.answer.Refusal.the-variants.{Kind, Target as TargetSize, Overlap, Bodies, View}
-use Rattle.isa.specs.declared.answer.Refusal.the-variants.{Output, Malformed, ExponentRange, Precision}
+use Rattle.isa.specs.declared.answer.Refusal.the-variants.{Output, Unread, Malformed, ExponentRange, Precision}
 
 pub decides : {A B : Type 0} (f : A → B) (g : B → A) → ((a : A) → g (f a) ≡ a) → (a b : A) → f a ≡ f b → a ≡ b
 decides f g h a b e = sym (h a) ∙ ap g e ∙ h b
 
--- 0 and 11 to 14 are no refusal's
+-- 0 and 12 to 14 are no refusal's
 abbrev pub refusalAt : ℕ → Refusal
 refusalAt n =
     getD
     (Sizes ∷ Sizes ∷ StateRange ∷ RaiseLevel ∷ Contents ∷ Kind ∷ TargetSize ∷ Overlap ∷ Bodies ∷ View ∷ Output
-    ∷ Sizes ∷ Sizes ∷ Sizes ∷ Sizes ∷ Malformed ∷ ExponentRange ∷ Precision ∷ [])
+    ∷ Unread ∷ Sizes ∷ Sizes ∷ Sizes ∷ Malformed ∷ ExponentRange ∷ Precision ∷ [])
     n Sizes
 
 pub refusal-again : (x : Refusal) → refusalAt (refusalNumber x) ≡ x
@@ -36,6 +36,7 @@ refusal-again Overlap = refl
 refusal-again Bodies = refl
 refusal-again View = refl
 refusal-again Output = refl
+refusal-again Unread = refl
 refusal-again Malformed = refl
 refusal-again ExponentRange = refl
 refusal-again Precision = refl

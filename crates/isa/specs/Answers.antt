@@ -4,8 +4,10 @@ use mathlib.Core.Bool.{Bool, cond, not, _&&_, _||_}
 use mathlib.Core.List.{List, [], _∷_, _++_}
 use lib.ListN.{take, drop, length}
 use lib.Dec.{ltb, leb, eqb}
-use Rattle.isa.specs.Machine.{tableWords, withBit, controlOf, inRange, sizesFit, stateWith}
+use Rattle.isa.specs.Machine.{tableWords, withBit, controlOf, inRange, sizesFit, withControlWords}
+use Rattle.isa.specs.Devices.{characterRange}
 use Rattle.isa.specs.System.{withPid}
+use Rattle.isa.specs.InputOutput.{ticked, typed, readOut}
 use Rattle.isa.specs.Step.{step, Turn}
 use Rattle.isa.specs.Run.{Run, runFrom}
 use Rattle.isa.specs.Images.{ImageEntry, contents, bodies, contentsFit, kindMemory, kindTables, knownKind, sizeOf}
@@ -18,11 +20,13 @@ use Rattle.isa.specs.declared.answer.Target.the-variants.{Memory, Tables
 use Rattle.isa.specs.declared.answer.Refusal.{Refusal}
 use Rattle.isa.specs.declared.answer.Refusal.the-variants.{Sizes, State as StateRange, RaiseLevel, Contents}
 use Rattle.isa.specs.declared.answer.Refusal.the-variants.{Kind, Target as TargetSize, Overlap, Bodies, View}
-use Rattle.isa.specs.declared.answer.Refusal.the-variants.{Output, Malformed, ExponentRange, Precision}
+use Rattle.isa.specs.declared.answer.Refusal.the-variants.{Output, Unread, Malformed, ExponentRange, Precision}
 use Rattle.isa.specs.declared.answer.StepAnswer.{StepAnswer}
 use Rattle.isa.specs.declared.answer.StepAnswer.the-variants.{Stepped, Refused as StepRefused}
 use Rattle.isa.specs.declared.answer.RunAnswer.{RunAnswer}
 use Rattle.isa.specs.declared.answer.RunAnswer.the-variants.{Ran, Refused as RunRefused}
+use Rattle.isa.specs.declared.answer.SentAnswer.{SentAnswer}
+use Rattle.isa.specs.declared.answer.SentAnswer.the-variants.{Sent, NoneSent, Refused as SentRefused}
 use Rattle.isa.specs.declared.answer.Answer.{Answer}
 use Rattle.isa.specs.declared.answer.Answer.the-variants.{Done, Refused}
 
@@ -40,7 +44,8 @@ refusalNumber Overlap = 7
 refusalNumber Bodies = 8
 refusalNumber View = 9
 refusalNumber Output = 10
--- document 02, card 12: "Answers: 15 ..; 16 ..; 17 .."
+-- document 02, card 1: "Answers: 11, a character handed in while the last is unread"; card 12: "15 ..; 16 ..; 17 .."
+refusalNumber Unread = 11
 refusalNumber Malformed = 15
 refusalNumber ExponentRange = 16
 refusalNumber Precision = 17
@@ -66,6 +71,17 @@ runNumber (RunRefused r) = refusalNumber r
 abbrev pub stepsTaken : RunAnswer → ℕ
 stepsTaken (Ran k w) = k
 stepsTaken (RunRefused r) = 0
+
+-- what a read out is answered: the character, or ruling 40's 256 for none; beside a refusal there is none
+abbrev pub sentNumber : SentAnswer → ℕ
+sentNumber (Sent w) = 0
+sentNumber NoneSent = 0
+sentNumber (SentRefused r) = refusalNumber r
+
+abbrev pub characterSentOf : SentAnswer → ℕ
+characterSentOf (Sent w) = w
+characterSentOf NoneSent = characterRange
+characterSentOf (SentRefused r) = characterRange
 
 -- "the reason is stopped, level, spent or interrupt": document 01 has no numbers for them; ours (docs/DECISIONS.md,
 -- part 2, 13) are in the order of its tests
@@ -126,7 +142,7 @@ deviceLevel l = leb 10 l && leb l 13 || eqb l 15
 -- "Raise, by a device, sets the level's PID bit: 2; 3". Ruling 28: also of a stopped machine. Memory and tables are
 -- looked at for refusal 1 alone. The bit is set for a level that was not refused, so PID stays a word.
 abbrev pub raised : State → ℕ → State
-raised s l = stateWith (s .level) (withPid (controlOf s) (withBit l 1 (s .control .pid))) (s .regs) (s .pcr)
+raised s l = withControlWords s (withPid (controlOf s) (withBit l 1 (s .control .pid)))
 
 abbrev pub levelAnswer : ℕ → Answer → Answer
 levelAnswer l Done = cond (deviceLevel l) Done (Refused RaiseLevel)
@@ -142,6 +158,51 @@ raiseCallBy (Refused r) s l = record { answer = Refused r; state = s }
 
 unfoldable pub raiseCall : State → ℕ → List ℕ → List ℕ → StateCall
 raiseCall s l m t = raiseCallBy (levelAnswer l (stateAnswer s m t)) s l
+
+-- ---- tick, typed character, read out
+
+-- Ruling 36: each "first refuses 1, then 2, allowed on a stopped machine too". Memory and tables are looked at for
+-- refusal 1 alone.
+abbrev pub tickCallBy : Answer → State → StateCall
+tickCallBy Done s = record { answer = Done; state = withControlWords s (ticked (controlOf s)) }
+tickCallBy (Refused r) s = record { answer = Refused r; state = s }
+
+unfoldable pub tickCall : State → List ℕ → List ℕ → StateCall
+tickCall s m t = tickCallBy (stateAnswer s m t) s
+
+-- "11, a character handed in while the last is unread, tested after 2"
+abbrev pub isUnread : State → Bool
+isUnread s = eqb (s .devices .input .unread) 1
+
+abbrev pub unreadAnswer : State → Answer → Answer
+unreadAnswer s Done = cond (isUnread s) (Refused Unread) Done
+unreadAnswer s (Refused r) = Refused r
+
+-- the character w is below 256 by its type
+abbrev pub typeCallBy : Answer → State → ℕ → StateCall
+typeCallBy Done s w = record { answer = Done; state = withControlWords s (typed (controlOf s) w) }
+typeCallBy (Refused r) s w = record { answer = Refused r; state = s }
+
+unfoldable pub typeCall : State → ℕ → List ℕ → List ℕ → StateCall
+typeCall s w m t = typeCallBy (unreadAnswer s (stateAnswer s m t)) s w
+
+-- "the character sent last is read out between steps, once, and else the answer is none"
+pub record ReadOutCall : Type 0 where
+  pub answer : SentAnswer
+  pub state : State
+
+abbrev pub waits : State → Bool
+waits s = eqb (s .devices .output .waits) 1
+
+abbrev pub readOutCallBy : Answer → State → ReadOutCall
+readOutCallBy Done s = record {
+  answer = cond (waits s) (Sent (s .devices .output .character)) NoneSent;
+  state = cond (waits s) (withControlWords s (readOut (controlOf s))) s;
+}
+readOutCallBy (Refused r) s = record { answer = SentRefused r; state = s }
+
+unfoldable pub readOutCall : State → List ℕ → List ℕ → ReadOutCall
+readOutCall s m t = readOutCallBy (stateAnswer s m t) s
 
 -- ---- load
 
@@ -241,6 +302,15 @@ runValues (RunRefused r) = []
 abbrev pub runNumbers : RunAnswer → Told
 runNumbers a = record { number = runNumber a; values = runValues a }
 
+-- a read out's is the character; where there is none it has no value
+abbrev pub sentValues : SentAnswer → List ℕ
+sentValues (Sent w) = w ∷ []
+sentValues NoneSent = []
+sentValues (SentRefused r) = []
+
+abbrev pub sentNumbers : SentAnswer → Told
+sentNumbers a = record { number = sentNumber a; values = sentValues a }
+
 -- what is told after tests in order, each with the number that it refuses with: that of the first that holds, else 0
 -- and the values
 abbrev pub tellsBy : List (Bool × ℕ) → List ℕ → Told
@@ -262,6 +332,18 @@ runTold first n s m t =
 -- "Raise, by a device, sets the level's PID bit: 2; 3, a level other than 10 to 13 and 15."
 unfoldable pub raiseTold : State → ℕ → List ℕ → List ℕ → Told
 raiseTold s l m t = tellsBy (stateTests s m t ++ ((not (deviceLevel l), 3) ∷ [])) []
+
+-- Document 02, card 1; ruling 36
+unfoldable pub tickTold : State → List ℕ → List ℕ → Told
+tickTold s m t = tellsBy (stateTests s m t) []
+
+-- "11, a character handed in while the last is unread, tested after 2"
+unfoldable pub typeTold : State → List ℕ → List ℕ → Told
+typeTold s m t = tellsBy (stateTests s m t ++ ((isUnread s, 11) ∷ [])) []
+
+unfoldable pub readOutTold : State → List ℕ → List ℕ → Told
+readOutTold s m t =
+    tellsBy (stateTests s m t) (cond (waits s) (s .devices .output .character ∷ []) [])
 
 -- "for each entry 5, unknown kind, 6, start plus length beyond its target's size, 7, covering a word already named"
 abbrev pub entryTests : ℕ → List ImageEntry → List ImageEntry → List (Bool × ℕ)

@@ -5,6 +5,7 @@ use mathlib.Core.Path.{_≡_, refl}
 use mathlib.Core.List.{List, [], _∷_, _++_}
 use lib.ListN.{getD, replicate}
 use Rattle.isa.specs.Machine.{tableWords, fileAt, putFile, stateWith}
+use Rattle.isa.specs.Devices.{clearedDevices}
 use Rattle.isa.specs.Flags.{adder, withOverflow, withSum, productOverflow, divisionFails, leftOnce, rightOnce}
 use Rattle.isa.specs.Decode.{byCode, byNumber, decode, traOf, trrOf, maskedOf, switchOf, transferOf, srbOf}
 use Rattle.isa.specs.Decode.{lrbOf, shiftOf}
@@ -34,6 +35,7 @@ quiet paging = record {
   pgs = 0;
   held = 0;
   extended = 0;
+  devices = clearedDevices;
 }
 
 -- a machine on level 0, P 0, with the registers D, B, A and T and the paging switch and PCR of the level

@@ -5,6 +5,7 @@ use mathlib.Core.List.{List, [], _∷_, _++_}
 use lib.ListN.{getD, drop, length, replicate}
 use lib.Seq.{paste}
 use lib.Dec.{ltb, leb, eqb}
+use Rattle.isa.specs.Devices.{deviceCount, deviceWords}
 use Rattle.isa.specs.Machine.{wordRange, registerWords, controlCount, tableWords, controlWords, stateOf}
 use Rattle.isa.specs.declared.machine.State.{State}
 use Rattle.isa.specs.declared.answer.Refusal.the-variants.{Kind, Target, Overlap}
@@ -55,8 +56,9 @@ unfoldable pub contentsFit : List ℕ → Bool
 contentsFit i =
     ltb 0 (length i) && leb (entryCount i) mostEntries && leb (1 + entryCount i * entrySize) (length i)
 
--- "kind (1 memory, 2 registers at 8 × level + number, 3 control words, 4 page tables)": a kind's size, with so many
--- words of memory; sizeOf is asked for known kinds only, so what is not 1, 2 or 3 is 4
+-- "kind (1 memory, 2 registers at 8 × level + number, 3 control words, 4 page tables)"; document 02, card 1: "Images
+-- gain kind 5, the devices' words": a kind's size, with so many words of memory; sizeOf is asked for known kinds only,
+-- so what is not 1 to 4 is 5
 abbrev pub kindMemory : ℕ
 kindMemory = 1
 
@@ -69,13 +71,17 @@ kindControl = 3
 abbrev pub kindTables : ℕ
 kindTables = 4
 
+abbrev pub kindDevices : ℕ
+kindDevices = 5
+
 abbrev pub knownKind : ℕ → Bool
-knownKind k = leb kindMemory k && leb k kindTables
+knownKind k = leb kindMemory k && leb k kindDevices
 
 abbrev pub sizeOf : ℕ → ℕ → ℕ
 sizeOf words k =
     cond (eqb k kindMemory) words
-    (cond (eqb k kindRegisters) registerWords (cond (eqb k kindControl) controlCount tableWords))
+    (cond (eqb k kindRegisters) registerWords
+    (cond (eqb k kindControl) controlCount (cond (eqb k kindTables) tableWords deviceCount)))
 
 -- "covering a word already named": two entries that meet. "A length of 0 covers nothing." Ruling 26: entries overlap
 -- only within one kind.
@@ -112,30 +118,34 @@ placed k (e ∷ es) body target =
 unfoldable pub loadedWords : ℕ → ℕ → List ℕ → List ℕ
 loadedWords k size i = placed k (contents i) (bodies i) (replicate size 0)
 
+-- "an image without it loads cleared devices": words not named load as 0
 abbrev pub loadedState : List ℕ → State
-loadedState i = stateOf (loadedWords kindRegisters registerWords i) (loadedWords kindControl controlCount i)
+loadedState i =
+    stateOf (loadedWords kindRegisters registerWords i) (loadedWords kindControl controlCount i)
+    (loadedWords kindDevices deviceCount i)
 
 -- "The writer puts four full entries, kinds 1 to 4"; document 02, card 3: "The writer's size grows by one."; card 4:
--- "The writer's size follows; kind 4 runs to 512."
+-- "The writer's size follows; kind 4 runs to 512."; card 1: "the writer adds it as a fifth full entry"
 abbrev pub entryWords : ℕ → ℕ → List ℕ
 entryWords k n = k ∷ 0 ∷ 0 ∷ n / wordRange ∷ n % wordRange ∷ []
 
 abbrev pub contentsWords : ℕ → List ℕ
 contentsWords words =
-    4
+    5
     ∷ (entryWords kindMemory words
     ++ (entryWords kindRegisters registerWords
-    ++ (entryWords kindControl controlCount ++ entryWords kindTables tableWords)))
+    ++ (entryWords kindControl controlCount
+    ++ (entryWords kindTables tableWords ++ entryWords kindDevices deviceCount))))
 
 unfoldable pub imageOf : State → List ℕ → List ℕ → List ℕ
-imageOf s m t = contentsWords (length m) ++ (m ++ (s .regs ++ (controlWords s ++ t)))
+imageOf s m t = contentsWords (length m) ++ (m ++ (s .regs ++ (controlWords s ++ (t ++ deviceWords (s .devices)))))
 
--- the list of contents, its word 0 and four entries; and with it the words beside memory: 689
+-- the list of contents, its word 0 and five entries; and with it the words beside memory: 706
 abbrev pub contentsSize : ℕ
-contentsSize = 21
+contentsSize = 26
 
 abbrev pub besideMemory : ℕ
-besideMemory = contentsSize + registerWords + controlCount + tableWords
+besideMemory = contentsSize + registerWords + controlCount + tableWords + deviceCount
 
 abbrev pub imageSize : List ℕ → ℕ
 imageSize m = length m + besideMemory

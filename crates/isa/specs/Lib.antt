@@ -1,4 +1,5 @@
 -- The ND-110 as definitions, in the order of document 01's sections.
+pub mod Devices
 pub mod Machine
 pub mod Decode
 pub mod Address
@@ -7,11 +8,13 @@ pub mod Signs
 pub mod Instructions
 pub mod Rotations
 pub mod System
+pub mod InputOutput
 pub mod Pages
 pub mod Physical
 pub mod Step
 pub mod Run
 pub mod Images
 pub mod Answers
+pub mod DeviceInput
 pub mod Isolation
 pub mod Cases

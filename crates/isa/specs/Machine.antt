@@ -19,6 +19,7 @@ use Rattle.isa.specs.declared.machine.Added.{Added}
 use Rattle.isa.specs.declared.machine.Control.{Control}
 use Rattle.isa.specs.declared.machine.Core.{Core}
 use Rattle.isa.specs.declared.machine.State.{State}
+use Rattle.isa.specs.Devices.{deviceCount, deviceWords, devicesOf, devicesInRange}
 
 -- ---- numbers with names
 
@@ -59,9 +60,12 @@ addedCount = 2
 abbrev pub controlCount : ℕ
 controlCount = firstAdded + addedCount
 
--- registers and control words together: a state's words
+-- registers, control words and devices' words together: a state's words, and the first device's among them
+abbrev pub firstDevice : ℕ
+firstDevice = registerWords + controlCount
+
 abbrev pub stateWords : ℕ
-stateWords = registerWords + controlCount
+stateWords = firstDevice + deviceCount
 
 -- "Lent memory: words in pages of 1,024, at least one page"; document 02, card 4: "Memory may be up to 16,777,216 words
 -- and the lent tables are always 512."
@@ -83,7 +87,7 @@ slotCount = 256
 
 -- the internal interrupts: "MON gives interrupt 1"; "the needed permit missing .. interrupt 2"; "all three permits 0,
 -- interrupt 3"; "Other codes are illegal (interrupt 4)"; RDIV "gives interrupt 5"; "Privileged codes need ring 2 or 3
--- after that, else interrupt 6"; "IOX, IOXT and IDENT give interrupt 7"; "page beyond the memory, interrupt 9"
+-- after that, else interrupt 6"; "interrupt 7 stays for all other addresses"; "page beyond the memory, interrupt 9"
 abbrev pub interruptMon : ℕ
 interruptMon = 1
 
@@ -205,7 +209,8 @@ fileAt b l = fileBy (λ r. getD b (l * fileSize + number r) 0)
 unfoldable pub putFile : List ℕ → ℕ → File → List ℕ
 putFile b l f = paste b (l * fileSize) (fileWords f) fileSize
 
--- The control words that instructions work on, 1 to 9 and those behind the PCRs: of a state, and back into its parts.
+-- The control words that instructions work on, 1 to 9 and those behind the PCRs, with the devices' words: of a state,
+-- and back into its parts.
 abbrev pub controlOf : State → Control
 controlOf s = record {
   interrupts = s .control .interrupts;
@@ -219,6 +224,7 @@ controlOf s = record {
   iie = s .control .iie;
   pgs = s .control .pgs;
   extended = s .added .extended;
+  devices = s .devices;
 }
 
 abbrev pub scalarsOf : Control → Scalars
@@ -261,9 +267,10 @@ addedWords k = k .held ∷ k .extended ∷ []
 abbrev pub controlWords : State → List ℕ
 controlWords s = scalarWords (s .level) (controlOf s) ++ (s .pcr ++ addedWords (controlOf s))
 
--- the state of 128 registers and 28 control words in image order; a list of 28 has each that is taken
-abbrev pub stateOf : List ℕ → List ℕ → State
-stateOf rs cs = record {
+-- the state of 128 registers, 28 control words and 12 devices' words in image order; a list of 28 has each that is
+-- taken
+abbrev pub stateOf : List ℕ → List ℕ → List ℕ → State
+stateOf rs cs ds = record {
   regs = rs;
   level = getD cs 0 0;
   control = record {
@@ -279,7 +286,15 @@ stateOf rs cs = record {
   };
   pcr = take levelCount (drop firstPcr cs);
   added = record { held = getD cs firstAdded 0; extended = getD cs (firstAdded + 1) 0 };
+  devices = devicesOf ds;
 }
+
+-- a state's words in a row (ruling 40: kinds 2, 3 and 5), and the state of such a row
+abbrev pub stateOrdered : State → List ℕ
+stateOrdered s = s .regs ++ (controlWords s ++ deviceWords (s .devices))
+
+abbrev pub stateIn : List ℕ → State
+stateIn w = stateOf (take registerWords w) (take controlCount (drop registerWords w)) (drop firstDevice w)
 
 -- "In a file STS is 0 to 255": of the levels below l
 abbrev pub flagsFit : ℕ → List ℕ → Bool
@@ -307,7 +322,7 @@ abbrev pub statusInRange : Control → Bool
 statusInRange c = pgsBits (c .pgs) && ltb (c .held) 2
 
 -- the control words but level and PCRs in range: "1 to 3 are 0 or 1", "Level and PVL are 0 to 15"; "bits not used are
--- 0"; document 02, card 4, ruling R10: control word 27 is 0 or 1
+-- 0"; document 02, card 4, ruling R10: control word 27 is 0 or 1; card 1: the devices' words
 abbrev pub controlInRange : Control → Bool
 controlInRange c =
     ltb (c .interrupts) 2 && ltb (c .paging) 2 && ltb (c .stopped) 2 && ltb (c .pvl) levelCount
@@ -315,6 +330,7 @@ controlInRange c =
     && interruptBits (c .iie)
     && statusInRange c
     && ltb (c .extended) 2
+    && devicesInRange (c .devices)
 
 -- a state in "the ranges above"; ruling 29: every value of PID, PIE, page tables, memory and registers other than STS
 -- is in range
@@ -356,11 +372,23 @@ pub record Typed (s : State) : Type 0 where
   pub pcr-length : length (s .pcr) ≡ levelCount
   pub regs-words : Words (s .regs)
   pub control-words : Words (controlWords s)
+  pub device-words : Words (deviceWords (s .devices))
 
--- A state of its parts: the level l, the control words k 1 to 9, 26 and 27, the registers b and the PCRs p of all
--- levels.
+-- A state of its parts: the level l, the control words k 1 to 9, 26 and 27 with the devices' words, the registers b and
+-- the PCRs p of all levels.
 abbrev pub stateWith : ℕ → Control → List ℕ → List ℕ → State
-stateWith l k b p = record { regs = b; level = l; control = scalarsOf k; pcr = p; added = addedOf k }
+stateWith l k b p = record {
+  regs = b;
+  level = l;
+  control = scalarsOf k;
+  pcr = p;
+  added = addedOf k;
+  devices = k .devices;
+}
+
+-- the state s with other control words and devices
+abbrev pub withControlWords : State → Control → State
+withControlWords s k = stateWith (s .level) k (s .regs) (s .pcr)
 
 -- The parts that the engine keeps apart: what the running level works on (a level below 16 has its PCR) ..
 abbrev pub coreOf : State → Core

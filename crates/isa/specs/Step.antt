@@ -19,6 +19,7 @@ use Rattle.isa.specs.Pages.{slotOf, entryAt, translate, marked, testAll,
 use Rattle.isa.specs.Pages.{firstStatus, heldAfter, wordAt, wordsAt, wordsOf, storeAll, rightsOf, lowered}
 use Rattle.isa.specs.Physical.{transferAddress, firstPlace, secondPlace, firstFault, transferStores}
 use Rattle.isa.specs.Physical.{transferred}
+use Rattle.isa.specs.InputOutput.{registerOf, answers, exchanged, lineOf, flipFlop, identified}
 use Rattle.isa.specs.declared.machine.Control.{Control}
 use Rattle.isa.specs.declared.machine.Core.{Core}
 use Rattle.isa.specs.declared.machine.File.{File}
@@ -33,6 +34,8 @@ use Rattle.isa.specs.declared.instruction.Transfer.{Transfer}
 use Rattle.isa.specs.declared.instruction.Instruction.{Instruction}
 use Rattle.isa.specs.declared.instruction.Instruction.the-variants.{Unprivileged, Privileged, Execute, Monitor}
 use Rattle.isa.specs.declared.instruction.Instruction.the-variants.{Illegal}
+use Rattle.isa.specs.declared.device.DeviceRegister.{DeviceRegister}
+use Rattle.isa.specs.declared.device.Line.{Line}
 use Rattle.isa.specs.declared.access.Access.{Access}
 use Rattle.isa.specs.declared.access.AccessKind.{AccessKind}
 use Rattle.isa.specs.declared.access.AccessKind.the-variants.{Fetch, Read, Write}
@@ -162,8 +165,17 @@ transferStage c m t o d =
     (part (withFile c (transferred o f (wordAt m t x) (wordAt m t y))) 0 Nothing (r .memory) (r .tables))
     (failed c (firstFault x y) m t)
 
--- what is left to be done outside the level l, or done here. "No device is fitted: IOX, IOXT and IDENT give interrupt
--- 7."
+-- Document 02, card 1: "IOX, IOXT and IDENT reach them and interrupt 7 stays for all other addresses and for an IDENT
+-- that no device answers." Ruling 31: with 7 nothing changes but P, IID and PID.
+unfoldable pub deviceStage : Core → List ℕ → List ℕ → DeviceRegister → Part
+deviceStage c m t r = cond (answers r) (part (exchanged c r) 0 Nothing m t) (trapped interruptIox c m t)
+
+unfoldable pub identStage : Core → List ℕ → List ℕ → Line → Part
+identStage c m t i =
+    cond (eqb (flipFlop (c .control .devices) i) 1) (part (identified c i) 0 Nothing m t) (trapped interruptIox c m t)
+
+-- what is left to be done outside the level l, or done here; ruling 31: IOX's address is eleven bits of the word,
+-- IOXT's all of T
 abbrev pub systemStage : ℕ → Core → List ℕ → List ℕ → System → Part
 systemStage l c m t (ControlOf o) = part (controlled l c o) 0 Nothing m t
 systemStage l c m t TraPgc = part c 0 ReadPcr m t
@@ -175,9 +187,9 @@ systemStage l c m t (Lrb n) = part c 0 (LoadBlock n) m t
 systemStage l c m t Exam = examined c m t
 systemStage l c m t Depo = deposited c m t
 systemStage l c m t (Physical o d) = transferStage c m t o d
-systemStage l c m t (Iox n) = trapped interruptIox c m t
-systemStage l c m t Ioxt = trapped interruptIox c m t
-systemStage l c m t (Ident n) = trapped interruptIox c m t
+systemStage l c m t (Iox n) = deviceStage c m t (registerOf n)
+systemStage l c m t Ioxt = deviceStage c m t (registerOf (reg (c .file) T))
+systemStage l c m t (Ident n) = identStage c m t (lineOf n)
 
 -- "Privileged codes need ring 2 or 3 after that, else interrupt 6. With paging off all is permitted"; ruling 24: so
 -- with paging off on every ring

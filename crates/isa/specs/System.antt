@@ -8,6 +8,7 @@ use Rattle.isa.specs.Machine.{interruptMask}
 use Rattle.isa.specs.Flags.{complement}
 use Rattle.isa.specs.declared.machine.Control.{Control}
 use Rattle.isa.specs.declared.machine.Core.{Core}
+use Rattle.isa.specs.declared.device.Devices.{Devices}
 use Rattle.isa.specs.declared.machine.Register.the-variants.{Sts, A}
 use Rattle.isa.specs.declared.instruction.Readable.{Readable}
 use Rattle.isa.specs.declared.instruction.Readable.the-variants.{Status, Pgs, Pvl, Iic, Pid, Pie, Actl}
@@ -39,6 +40,7 @@ withSwitches k i p h = record {
   pgs = k .pgs;
   held = k .held;
   extended = k .extended;
+  devices = k .devices;
 }
 
 abbrev pub withLevels : Control → ℕ → ℕ → ℕ → Control
@@ -54,6 +56,7 @@ withLevels k d e v = record {
   pgs = k .pgs;
   held = k .held;
   extended = k .extended;
+  devices = k .devices;
 }
 
 abbrev pub withInternal : Control → ℕ → ℕ → Control
@@ -69,6 +72,7 @@ withInternal k d e = record {
   pgs = k .pgs;
   held = k .held;
   extended = k .extended;
+  devices = k .devices;
 }
 
 -- PGS, and whether it is held
@@ -85,6 +89,7 @@ withPagingStatus k g h = record {
   pgs = g;
   held = h;
   extended = k .extended;
+  devices = k .devices;
 }
 
 -- the extended flag
@@ -101,6 +106,24 @@ withExtended k x = record {
   pgs = k .pgs;
   held = k .held;
   extended = x;
+  devices = k .devices;
+}
+
+-- PID and the devices' words, which a device that asks changes together
+abbrev pub withDevices : Control → ℕ → Devices → Control
+withDevices k p d = record {
+  interrupts = k .interrupts;
+  paging = k .paging;
+  stopped = k .stopped;
+  pid = p;
+  pie = k .pie;
+  pvl = k .pvl;
+  iid = k .iid;
+  iie = k .iie;
+  pgs = k .pgs;
+  held = k .held;
+  extended = k .extended;
+  devices = d;
 }
 
 abbrev pub withPid : Control → ℕ → Control

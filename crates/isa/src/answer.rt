@@ -38,7 +38,7 @@ pub enum Target {
     Tables,
 }
 
-// Why an operation refused; the last three are the conversions' of the floating forms.
+// Why an operation refused: Unread is a typed character's; the last three are the conversions' of the floating forms.
 pub enum Refusal {
     Sizes,
     State,
@@ -50,6 +50,7 @@ pub enum Refusal {
     Bodies,
     View,
     Output,
+    Unread,
     Malformed,
     ExponentRange,
     Precision,
@@ -67,7 +68,14 @@ pub enum RunAnswer {
     Refused(Refusal),
 }
 
-// By raise, load, write and the call beside view.
+// By a read out: the character sent last, or none.
+pub enum SentAnswer {
+    Sent(u16),
+    NoneSent,
+    Refused(Refusal),
+}
+
+// By raise, tick, a typed character, load, write and the call beside view.
 pub enum Answer {
     Done,
     Refused(Refusal),

@@ -3,6 +3,7 @@
 pub mod access;
 pub mod answer;
 pub mod constant;
+pub mod device;
 pub mod instruction;
 pub mod machine;
 pub mod number;

@@ -13,6 +13,7 @@ use crate::constant::NUMBER_STS;
 use crate::constant::NUMBER_T;
 use crate::constant::NUMBER_X;
 use crate::constant::REGISTER_WORDS;
+use crate::device::Devices;
 
 // The registers of a level, in the order of their numbers 0 to 7.
 pub enum Register {
@@ -140,7 +141,7 @@ pub type RegisterWords = [u16; REGISTER_WORDS];
 
 pub type Pcrs = [u16; LEVEL_COUNT];
 
-// The machine as callers hand it in and get it back: register n of a level is word 8 * level + n. In C's layout its 156
+// The machine as callers hand it in and get it back: register n of a level is word 8 * level + n. In C's layout its 168
 // words stand in image order, with nothing between them.
 #[repr(C)]
 pub struct State {
@@ -149,11 +150,12 @@ pub struct State {
     pub control: Scalars,
     pub pcr: Pcrs,
     pub added: Added,
+    pub devices: Devices,
 }
 
-// The control words that instructions work on, 1 to 9, 26 and 27; the level (0) and the PCRs (10 to 25) stand beside
-// them.
-// No order of them that was tried takes fewer machine instructions a step of a run (docs/BENCHMARK.md).
+// The control words that instructions work on, 1 to 9, 26 and 27, and the devices; the level (0) and the PCRs (10 to
+// 25) stand beside them. No order of them that was tried with this code takes fewer machine instructions a step of a
+// run (docs/BENCHMARK.md).
 pub struct Control {
     pub interrupts: u16,
     pub held: u16,
@@ -166,6 +168,7 @@ pub struct Control {
     pub iid: u16,
     pub iie: u16,
     pub pgs: u16,
+    pub devices: Devices,
 }
 
 impl State {
@@ -175,6 +178,7 @@ impl State {
     {
         let w = self.control;
         let a = self.added;
+        let d = self.devices;
         Control {
             interrupts: w.interrupts,
             held: a.held,
@@ -187,6 +191,7 @@ impl State {
             iie: w.iie,
             pgs: w.pgs,
             extended: a.extended,
+            devices: d,
         }
     }
 
@@ -194,6 +199,7 @@ impl State {
     pub fn with(level: u16, k: Control, regs: RegisterWords, pcrs: Pcrs) -> State
         ensures { λ s. ⌜ s ≡ stateWith level k regs pcrs ⌝ }
     {
+        let d = k.devices;
         State {
             regs: regs,
             level: level,
@@ -213,6 +219,7 @@ impl State {
                 held: k.held,
                 extended: k.extended,
             },
+            devices: d,
         }
     }
 }

@@ -1,12 +1,14 @@
 // Answers as numbers, and the rest that they tell.
 ghost use mathlib.Core.Path.{_≡_};
 ghost use Rattle.isa.specs.Answers.{refusalNumber, answerNumber, stepNumber, interruptGiven, runNumber};
-ghost use Rattle.isa.specs.Answers.{stepsTaken, reasonNumber};
+ghost use Rattle.isa.specs.Answers.{stepsTaken, reasonNumber, sentNumber, characterSentOf};
 use crate::answer::Answer;
 use crate::answer::Reason;
 use crate::answer::Refusal;
 use crate::answer::RunAnswer;
+use crate::answer::SentAnswer;
 use crate::answer::StepAnswer;
+use crate::constant::CHARACTER_RANGE;
 
 // The number of a refusal in document 01, or 02.
 pub fn refusal_number(r: Refusal) -> u16
@@ -23,6 +25,7 @@ pub fn refusal_number(r: Refusal) -> u16
         Refusal::Bodies => 8,
         Refusal::View => 9,
         Refusal::Output => 10,
+        Refusal::Unread => 11,
         Refusal::Malformed => 15,
         Refusal::ExponentRange => 16,
         Refusal::Precision => 17,
@@ -73,6 +76,27 @@ pub fn steps_taken(a: RunAnswer) -> u64
     match a {
         RunAnswer::Ran(k, _) => k,
         RunAnswer::Refused(_) => 0,
+    }
+}
+
+pub fn sent_number(a: SentAnswer) -> u16
+    ensures { λ n. ⌜ n ≡ sentNumber a ⌝ }
+{
+    match a {
+        SentAnswer::Sent(_) => 0,
+        SentAnswer::NoneSent => 0,
+        SentAnswer::Refused(r) => refusal_number(r),
+    }
+}
+
+// The character read out, or 256 for none.
+pub fn character_sent_of(a: SentAnswer) -> u16
+    ensures { λ n. ⌜ n ≡ characterSentOf a ⌝ }
+{
+    match a {
+        SentAnswer::Sent(w) => w,
+        SentAnswer::NoneSent => CHARACTER_RANGE,
+        SentAnswer::Refused(_) => CHARACTER_RANGE,
     }
 }
 

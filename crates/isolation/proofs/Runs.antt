@@ -130,20 +130,23 @@ module _ (form : Bool) (t₀ : List ℕ) (a b ρ : ℕ) where
     pub tables : r .tables ≡ q .tables
     pub memories : EvenMemories form t₀ a b ρ m n (r .memory) (q .memory)
     pub marks : Marked form (r .tables) t₀
+    pub held : Held form t₀ a b ρ (coreOf (r .state))
 
-  -- the rest of a run, from any two memories that agree
-  abbrev EvenRest : (ℕ → State → List ℕ → List ℕ → Run) → Type 0
-  EvenRest f =
+  -- the rest of a run, from any two memories that agree; Left is what is said of what two runs leave
+  abbrev pub EvenRest : {A : Type 0} → (List ℕ → List ℕ → A → A → Type 0) → (ℕ → State → List ℕ → List ℕ → A)
+      → Type 0
+  EvenRest Left f =
       (k : ℕ) (s : State) (m n t : List ℕ) → Held form t₀ a b ρ (coreOf s) → Agree form t₀ a b ρ m n → Marked form t t₀
-      → EvenRun m n (f k s m t) (f k s n t)
+      → Left m n (f k s m t) (f k s n t)
 
-  ended-even : (w : Reason) (k : ℕ) (s : State) (m n m′ n′ t : List ℕ) → EvenMemories form t₀ a b ρ m n m′ n′
+  pub ended-even : (w : Reason) (k : ℕ) (s : State) (m n m′ n′ t : List ℕ) → EvenMemories form t₀ a b ρ m n m′ n′
       → Marked form t t₀
-      → EvenRun m n (ended w k s m′ t) (ended w k s n′ t)
-  ended-even w k s m n m′ n′ t h hm =
-      record { state = refl; steps = refl; reason = refl; tables = refl; memories = h; marks = hm }
+      → Held form t₀ a b ρ (coreOf s) → EvenRun m n (ended w k s m′ t) (ended w k s n′ t)
+  ended-even w k s m n m′ n′ t h hm hs =
+      record { state = refl; steps = refl; reason = refl; tables = refl; memories = h; marks = hm; held = hs }
 
-  later : (m n m′ n′ : List ℕ) (r q : Run) → EvenMemories form t₀ a b ρ m n m′ n′ → EvenRun m′ n′ r q → EvenRun m n r q
+  pub later : (m n m′ n′ : List ℕ) (r q : Run) → EvenMemories form t₀ a b ρ m n m′ n′ → EvenRun m′ n′ r q
+      → EvenRun m n r q
   later m n m′ n′ r q h e = record {
     state = e .state;
     steps = e .steps;
@@ -151,9 +154,10 @@ module _ (form : Bool) (t₀ : List ℕ) (a b ρ : ℕ) where
     tables = e .tables;
     memories = even-trans form t₀ a b ρ m n m′ n′ (r .memory) (q .memory) h (e .memories);
     marks = e .marks;
+    held = e .held;
   }
 
-  after-even : (f : ℕ → State → List ℕ → List ℕ → Run) → EvenRest f → (k : ℕ) (m n : List ℕ) (r q : Turn)
+  after-even : (f : ℕ → State → List ℕ → List ℕ → Run) → EvenRest EvenRun f → (k : ℕ) (m n : List ℕ) (r q : Turn)
       → EvenTurn m n r q
       → EvenRun m n (afterStep true f k r) (afterStep true f k q)
   after-even f hf k m n r q e = rw (← e .state, ← e .gave, ← e .tables) (go (not (eqb (r .gave) 0)))
@@ -163,7 +167,9 @@ module _ (form : Bool) (t₀ : List ℕ) (a b ρ : ℕ) where
           (f (suc k) (r .state) (r .memory) (r .tables)))
           (cond x (ended Interrupt (suc k) (r .state) (q .memory) (r .tables))
           (f (suc k) (r .state) (q .memory) (r .tables)))
-      go true = ended-even Interrupt (suc k) (r .state) m n (r .memory) (q .memory) (r .tables) (e .memories) (e .marks)
+      go true =
+          ended-even Interrupt (suc k) (r .state) m n (r .memory) (q .memory) (r .tables) (e .memories) (e .marks)
+          (e .held)
       go false =
           later m n (r .memory) (q .memory) (f (suc k) (r .state) (r .memory) (r .tables))
           (f (suc k) (r .state) (q .memory) (r .tables))
@@ -172,24 +178,25 @@ module _ (form : Bool) (t₀ : List ℕ) (a b ρ : ℕ) where
 
   -- before a step: stopped, a change of level due, or on; `rest` is what follows in each run
   before-even : (k : ℕ) (s : State) (m n t : List ℕ) (r q : Run) → Agree form t₀ a b ρ m n → Marked form t t₀
+      → Held form t₀ a b ρ (coreOf s)
       → (changeDue s ≡ false → EvenRun m n r q)
       → EvenRun m n (cond (isStopped s) (ended Stopped k s m t) (cond (changeDue s) (ended Level k s m t) r))
       (cond (isStopped s) (ended Stopped k s n t) (cond (changeDue s) (ended Level k s n t) q))
-  before-even k s m n t r q h hm e = go (isStopped s) (changeDue s) refl
+  before-even k s m n t r q h hm hs e = go (isStopped s) (changeDue s) refl
     where
       go : (x y : Bool) → changeDue s ≡ y
           → EvenRun m n (cond x (ended Stopped k s m t) (cond y (ended Level k s m t) r))
           (cond x (ended Stopped k s n t) (cond y (ended Level k s n t) q))
-      go true y d = ended-even Stopped k s m n m n t (even-refl form t₀ a b ρ m n h) hm
-      go false true d = ended-even Level k s m n m n t (even-refl form t₀ a b ρ m n h) hm
+      go true y d = ended-even Stopped k s m n m n t (even-refl form t₀ a b ρ m n h) hm hs
+      go false true d = ended-even Level k s m n m n t (even-refl form t₀ a b ρ m n h) hm hs
       go false false d = e d
 
-  pub run-even : ρ ≤ 1 → (c : ℕ) → EvenRest (runFrom true c)
+  pub run-even : ρ ≤ 1 → (c : ℕ) → EvenRest EvenRun (runFrom true c)
   run-even low zero k s m n t hs h hm =
-      before-even k s m n t (ended Spent k s m t) (ended Spent k s n t) h hm
-      (λ d. ended-even Spent k s m n m n t (even-refl form t₀ a b ρ m n h) hm)
+      before-even k s m n t (ended Spent k s m t) (ended Spent k s n t) h hm hs
+      (λ d. ended-even Spent k s m n m n t (even-refl form t₀ a b ρ m n h) hm hs)
   run-even low (suc c) k s m n t hs h hm =
       before-even k s m n t (afterStep true (runFrom true c) k (step s m t))
-      (afterStep true (runFrom true c) k (step s n t)) h hm
+      (afterStep true (runFrom true c) k (step s n t)) h hm hs
       (λ d. after-even (runFrom true c) (run-even low c) k m n (step s m t) (step s n t)
       (step-even low s m n t d hs h hm))

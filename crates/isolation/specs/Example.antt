@@ -1,12 +1,13 @@
 -- A worked pair: a regulator on level 1, ring 1, beside a page that is not its own, in 19-bit mode and in extended
--- mode. docs/ISOLATION.md tells it in prose.
+-- mode, without and with device input. docs/ISOLATION.md tells it in prose.
 use Prim.Native.Nat.{ℕ, _+_, _*_}
 use mathlib.Core.Path.{_≡_, refl}
 use mathlib.Core.Bool.{Bool, true, false, cond}
 use mathlib.Core.List.{List, [], _∷_, _++_}
 use lib.ListN.{getD, replicate}
 use Rattle.isa.specs.Machine.{flagOf, fileAt, putFile, inRange, sizesFit, stateWith}
-use Rattle.isa.specs.System.{withExtended}
+use Rattle.isa.specs.Devices.{deviceWords, devicesOf}
+use Rattle.isa.specs.System.{withSwitches, withPie, withExtended, withDevices}
 use Rattle.isa.specs.Flags.{adder, withOverflow, withSum, productOverflow, divisionFails, leftOnce, rightOnce}
 use Rattle.isa.specs.Decode.{byCode, byNumber, decode, traOf, trrOf, maskedOf, switchOf, transferOf, srbOf, lrbOf}
 use Rattle.isa.specs.Decode.{shiftOf}
@@ -16,10 +17,13 @@ use Rattle.isa.specs.Pages.{withinMemory, judged, inWindow, translate, marked, 
 use Rattle.isa.specs.Step.{step, interrupted, faulted, finished, operandsTested, operands, indirectTested, userStage}
 use Rattle.isa.specs.Step.{examined, deposited, instructionStage, fetched, stepIn, putOther, blockStored, blockLoaded}
 use Rattle.isa.specs.Step.{farStage, settled, changeDue, levelChanged}
-use Rattle.isa.specs.Answers.{RunCall, runCall, stateAnswer, stepsTaken}
+use Rattle.isa.specs.Answers.{RunCall, runCall, stateAnswer, stepsTaken, runValues}
+use Rattle.isa.specs.DeviceInput.{Given, InputRunCall, inputRunCall}
 use Rattle.isa.specs.Isolation.{inEither, reachable, writable}
 use Rattle.isa.specs.Cases.{quiet, given, stated}
+use Rattle.isa.specs.declared.machine.Control.{Control}
 use Rattle.isa.specs.declared.machine.State.{State}
+use Rattle.isa.specs.declared.device.DeviceInput.the-variants.{Raise, Tick, Typed, ReadOut}
 
 -- Physical page 0 holds four small programs. Each begins at its address with BSET ONE SSPTM, so that PTM is 1 whatever
 -- it was, takes the word that B points to, adds one, gives it back, and then tries the foreign page, where X points:
@@ -61,11 +65,11 @@ tables form =
     ++ (noEntries form 62
     ++ (entry form 0o141000 1 ++ (entry form 0 2 ++ (noEntries form 189 ++ replicate (cond form 0 256) 0))))))
 
--- Level 1 with P as given, B at virtual page 1, X at virtual page 2; paging on, in the mode given; PCR: ring 1,
--- alternate table 1, normal table 0.
-abbrev pub pairStart : Bool → ℕ → State
-pairStart form p =
-    stateWith 1 (withExtended (quiet 1) (flagOf form))
+-- Level 1 with P as given, B at virtual page 1, X at virtual page 2; control words as given, in the mode given; PCR:
+-- ring 1, alternate table 1, normal table 0.
+abbrev pub pairStart : Bool → Control → ℕ → State
+pairStart form k p =
+    stateWith 1 (withExtended k (flagOf form))
     (replicate 8 0 ++ (0 ∷ 0 ∷ p ∷ 0o002000 ∷ 0 ∷ 0 ∷ 0 ∷ 0o004000 ∷ replicate 112 0))
     (0 ∷ 0o201 ∷ replicate 14 0)
 
@@ -84,8 +88,9 @@ seen r =
     ∷ getD (r .memory) 2049 0
     ∷ []
 
+-- paging on, and else control words and devices that are 0
 abbrev pub run : Bool → ℕ → List ℕ → RunCall
-run form p m = runCall true 100 (pairStart form p) m (tables form)
+run form p m = runCall true 100 (pairStart form (quiet 1) p) m (tables form)
 
 -- By the alternate table an entry without permits gives interrupt 3 (IID 000010), PGS 040000 + table 1, page 2; by the
 -- normal table ring 3 gives interrupt 2 (IID 000004), PGS table 0, page 2. The message is 000010 in every run; the
@@ -102,18 +107,86 @@ pair form =
     ∷ (seen (run form 0o30 right), 6 ∷ 8 ∷ 30 ∷ 0 ∷ 4 ∷ 0o000002 ∷ 8 ∷ 0o022222 ∷ 2 ∷ [])
     ∷ []
 
-pub pair-holds : (given (pair false) ≡ stated (pair false)) × (given (pair true) ≡ stated (pair true))
-unfolding pair runCall stateAnswer sizesFit inRange fileAt putFile adder withOverflow withSum productOverflow
-    divisionFails leftOnce rightOnce byCode byNumber decode traOf trrOf maskedOf switchOf transferOf srbOf lrbOf
-    shiftOf firstAddress divided withinMemory judged inWindow translate marked lowered step interrupted faulted finished
-    operandsTested operands indirectTested userStage examined deposited instructionStage fetched stepIn putOther
-    blockStored blockLoaded farStage settled changeDue levelChanged
-pair-holds = (refl, refl)
+-- ---- with device input
+
+-- Program 000 again, with devices in use: the clock and terminal input are enabled, and the character A (0o101) waits
+-- to be read out. Interrupts are off (0) or on (1), PIE has levels 13 and 1, PID level 1.
+abbrev pub inUse : ℕ → Control
+inUse interrupts =
+    withDevices (withPie (withSwitches (quiet 1) interrupts 1 0) 0o020002) 0o000002
+    (devicesOf (1 ∷ 0 ∷ 0 ∷ 1 ∷ 0 ∷ 0 ∷ 0 ∷ 0 ∷ 0 ∷ 1 ∷ 0 ∷ 0o101 ∷ []))
+
+abbrev pub deviceInput : List Given
+deviceInput =
+    record { at = 0; input = ReadOut }
+    ∷ record { at = 1; input = Tick }
+    ∷ record { at = 2; input = Typed 0o102 }
+    ∷ record { at = 2; input = Typed 0o103 }
+    ∷ record { at = 3; input = ReadOut }
+    ∷ record { at = 3; input = Raise 14 }
+    ∷ record { at = 4; input = Raise 11 }
+    ∷ record { at = 5; input = Tick }
+    ∷ []
+
+abbrev pub runWithInput : Bool → ℕ → List ℕ → InputRunCall
+runWithInput form interrupts m = inputRunCall 100 deviceInput (pairStart form (inUse interrupts) 0) m (tables form)
+
+-- What is looked at: steps and reason; what the inputs were told; PID; the devices' words; the message and the two
+-- foreign words.
+abbrev pub seenWithInput : InputRunCall → List (List ℕ)
+seenWithInput r =
+    runValues (r .answer)
+    ∷ r .told
+    ∷ (r .state .control .pid ∷ [])
+    ∷ deviceWords (r .state .devices)
+    ∷ (getD (r .memory) 1024 0 ∷ getD (r .memory) 2048 0 ∷ getD (r .memory) 2049 0 ∷ [])
+    ∷ []
+
+-- Interrupts off: the tick and the first character ask (PID bits 13 and 12), the raise sets bit 11; the second
+-- character is refused (11) and so is level 14 (3); the second read out finds none (256). Interrupt 3 in step 5 ends
+-- the run, so the last tick is not handed in.
+abbrev pub endsInterrupted : List ℕ → List (List ℕ)
+endsInterrupted foreign =
+    (5 ∷ 3 ∷ [])
+    ∷ (0o101 ∷ 0 ∷ 0 ∷ 11 ∷ 256 ∷ 3 ∷ 0 ∷ [])
+    ∷ (0o034002 ∷ [])
+    ∷ (1 ∷ 1 ∷ 1 ∷ 1 ∷ 1 ∷ 1 ∷ 0o102 ∷ 0 ∷ 0 ∷ 0 ∷ 0 ∷ 0o101 ∷ [])
+    ∷ (8 ∷ foreign)
+    ∷ []
+
+-- Interrupts on: the tick makes level 13 due, and the run ends there, after one step.
+abbrev pub endsDue : List ℕ → List (List ℕ)
+endsDue foreign =
+    (1 ∷ 1 ∷ [])
+    ∷ (0o101 ∷ 0 ∷ [])
+    ∷ (0o020002 ∷ [])
+    ∷ (1 ∷ 1 ∷ 1 ∷ 1 ∷ 0 ∷ 0 ∷ 0 ∷ 0 ∷ 0 ∷ 0 ∷ 0 ∷ 0o101 ∷ [])
+    ∷ (7 ∷ foreign)
+    ∷ []
+
+-- both sides leave the same but for the foreign words, which are as they were
+unfoldable pub pairWithInput : Bool → List (List (List ℕ) × List (List ℕ))
+pairWithInput form =
+    (seenWithInput (runWithInput form 0 left), endsInterrupted (0o111111 ∷ 1 ∷ []))
+    ∷ (seenWithInput (runWithInput form 0 right), endsInterrupted (0o022222 ∷ 2 ∷ []))
+    ∷ (seenWithInput (runWithInput form 1 left), endsDue (0o111111 ∷ 1 ∷ []))
+    ∷ (seenWithInput (runWithInput form 1 right), endsDue (0o022222 ∷ 2 ∷ []))
+    ∷ []
+
+pub pair-holds : (form : Bool)
+    → (given (pair form) ≡ stated (pair form)) × (given (pairWithInput form) ≡ stated (pairWithInput form))
+unfolding pair pairWithInput runCall inputRunCall stateAnswer sizesFit inRange fileAt putFile adder withOverflow withSum
+    productOverflow divisionFails leftOnce rightOnce byCode byNumber decode traOf trrOf maskedOf switchOf transferOf
+    srbOf lrbOf shiftOf firstAddress divided withinMemory judged inWindow translate marked lowered step interrupted
+    faulted finished operandsTested operands indirectTested userStage examined deposited instructionStage fetched stepIn
+    putOther blockStored blockLoaded farStage settled changeDue levelChanged
+pair-holds true = (refl, refl)
+pair-holds false = (refl, refl)
 
 -- the pages that are permitted to the start: 0 to 2 for reading, 0 and 1 for writing
 abbrev pub pages : Bool → List Bool
 pages form =
-    let s = pairStart form 0 in
+    let s = pairStart form (quiet 1) 0 in
     reachable s (tables form) 0
     ∷ reachable s (tables form) 1
     ∷ reachable s (tables form) 2

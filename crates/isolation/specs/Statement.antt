@@ -1,19 +1,25 @@
--- Demand 3, document 01 "Two machines side by side": what is claimed of run to the first interrupt from two starts.
+-- Demand 3, document 01 "Two machines side by side", and document 02, card 1, on devices: what is claimed of run to the
+-- first interrupt with device input from two starts.
 use Prim.Native.Nat.{ℕ, _/_, _≤_}
 use mathlib.Core.Path.{_≡_}
 use mathlib.Core.Bool.{true, false}
-use mathlib.Core.List.{List}
+use mathlib.Core.List.{List, []}
 use lib.ListN.{getD, length}
 use Rattle.isa.specs.Machine.{ringOf}
 use Rattle.isa.specs.Pages.{entryAt}
-use Rattle.isa.specs.Answers.{RunCall}
+use Rattle.isa.specs.Answers.{RunCall, stateAnswer}
+use Rattle.isa.specs.DeviceInput.{Given, InputRunCall, inputRunCall}
 use Rattle.isa.specs.Isolation.{AlikeStarts, MarksAlone, startPcr, startForm, writable, differs}
 use Rattle.isa.specs.Isolation.{differingWords}
 use Rattle.isa.specs.declared.machine.State.{State}
 use Rattle.isa.specs.declared.answer.Refusal.{Refusal}
 use Rattle.isa.specs.declared.answer.RunAnswer.the-variants.{Refused}
+use Rattle.isa.specs.declared.answer.Answer.the-variants.{Refused as StartRefused}
 
--- The starts: one state s and one set of page tables t, with the memories m and n.
+-- The starts: one state s, devices included, and one set of page tables t, with the memories m and n. Document 02, card
+-- 1: "A comparison of two runs now starts with both devices alike, gives them the same raises, ticks and typed
+-- characters and has sent ones read out at the same steps in the same order (all this is the device input), and ends
+-- with the devices alike".
 pub record Starts (s : State) (t m n : List ℕ) : Type 0 where
   -- "Two machines with paging on, on one ring 0 or 1"
   pub paging-on : s .control .paging ≡ 1
@@ -23,7 +29,7 @@ pub record Starts (s : State) (t m n : List ℕ) : Type 0 where
   pub alike : AlikeStarts s t m n
 
 -- What one run from the memory m leaves.
-pub record Confined (s : State) (t m : List ℕ) (r : RunCall) : Type 0 where
+pub record Confined (s : State) (t m : List ℕ) (r : InputRunCall) : Type 0 where
   -- as much memory as before
   pub size : length (r .memory) ≡ length m
   -- "in each run every word of a page not permitted for writing is as it was"; past the end there is none, and `getD`
@@ -34,10 +40,12 @@ pub record Confined (s : State) (t m : List ℕ) (r : RunCall) : Type 0 where
   pub marks : (i : ℕ) → MarksAlone (entryAt (startForm s) (r .tables) i) (entryAt (startForm s) t i)
 
 -- What the two runs r, from m, and q, from n, leave.
-pub record Isolated (s : State) (t m n : List ℕ) (r q : RunCall) : Type 0 where
+pub record Isolated (s : State) (t m n : List ℕ) (r q : InputRunCall) : Type 0 where
   -- "steps and reason differ in nothing", nor does a refusal
   pub answer : r .answer ≡ q .answer
-  -- "equal in every register, control word and page table word, marks too"
+  -- what each input was answered, the character read out included
+  pub told : r .told ≡ q .told
+  -- "equal in every register, control word and page table word, marks too"; "ends with the devices alike"
   pub state : r .state ≡ q .state
   pub tables : r .tables ≡ q .tables
   -- "The same words differ afterwards with the same two values": a word that differed at the start is in each run as it
@@ -53,7 +61,30 @@ pub record Isolated (s : State) (t m n : List ℕ) (r q : RunCall) : Type 0 wher
   pub right : Confined s t n q
 
 -- "Two starts that are refused, with equally much memory and equal in all but memory's words, get the same refusal, and
--- each stays as it came": the calls r and q with the refusal x.
-pub record RefusedAlike (s : State) (t m n : List ℕ) (x : Refusal) (r q : RunCall) : Type 0 where
-  pub left : r ≡ record { answer = Refused x; state = s; memory = m; tables = t }
-  pub right : q ≡ record { answer = Refused x; state = s; memory = n; tables = t }
+-- each stays as it came": the calls r and q with the refusal x. No input was handed in.
+pub record RefusedAlike (s : State) (t m n : List ℕ) (x : Refusal) (r q : InputRunCall) : Type 0 where
+  pub left : r ≡ record { answer = Refused x; told = []; state = s; memory = m; tables = t }
+  pub right : q ≡ record { answer = Refused x; told = []; state = s; memory = n; tables = t }
+
+-- THE CLAIM, of two whole runs: for any number of steps c, 0 included, and any device input gs, one for both
+abbrev pub IsolatedRuns : Type 0
+IsolatedRuns =
+    (c : ℕ) (gs : List Given) (s : State) (t m n : List ℕ) → Starts s t m n
+    → Isolated s t m n (inputRunCall c gs s m t) (inputRunCall c gs s n t)
+
+-- the claim of two starts that are refused
+abbrev pub RefusedRuns : Type 0
+RefusedRuns =
+    (c : ℕ) (gs : List Given) (s : State) (t m n : List ℕ) (x : Refusal) → length m ≡ length n
+    → stateAnswer s m t ≡ StartRefused x
+    → RefusedAlike s t m n x (inputRunCall c gs s m t) (inputRunCall c gs s n t)
+
+-- a run without device input: nothing was handed in, so nothing told
+abbrev pub withoutInput : RunCall → InputRunCall
+withoutInput r = record {
+  answer = r .answer;
+  told = [];
+  state = r .state;
+  memory = r .memory;
+  tables = r .tables;
+}

@@ -1,4 +1,5 @@
--- The extended flag through a step and a run, what SEX and REX leave, and the places of the seven.
+-- The extended flag through a step and a run; ring 0 and 1, which keep it and the devices; what SEX and REX leave; and
+-- the places of the seven.
 -- Assumes nothing.
 use Prim.Native.Nat.{ℕ, zero, suc, _≤_, _<_}
 use native.Mathlib.Omega.{arith}
@@ -12,17 +13,17 @@ use lib.Seq.{getD-set-same, set-out}
 use lib.Dec.{eqb}
 use borrow.Author.Tests.{lt-ltb}
 use Rattle.isa.specs.Machine.{wordRange, levelCount, registerWords, bit, ringOf, coreOf, withControl, next, nextCore}
-use Rattle.isa.specs.Machine.{putFile}
+use Rattle.isa.specs.Machine.{controlOf, putFile}
 use Rattle.isa.specs.System.{withExtended}
 use Rattle.isa.specs.Pages.{inWindow, translate, faultOf}
 use Rattle.isa.specs.Physical.{physicalPlace}
 use Rattle.isa.specs.Step.{Turn, part, interrupted, withPgs, faulted, farStage, settled, isStopped, changeDue, step}
 use Rattle.isa.specs.Run.{Run, afterStep, runFrom}
+use Rattle.isa.specs.Isolation.{startPcr}
 use Rattle.isa.specs.declared.machine.Control.{Control}
 use Rattle.isa.specs.declared.machine.Core.{Core}
 use Rattle.isa.specs.declared.machine.File.{File}
 use Rattle.isa.specs.declared.machine.State.{State}
-use Rattle.isa.specs.declared.instruction.ControlOp.{ControlOp}
 use Rattle.isa.specs.declared.instruction.ControlOp.the-variants.{Sex, Rex}
 use Rattle.isa.specs.declared.instruction.System.{System}
 use Rattle.isa.specs.declared.instruction.System.the-variants.{Control as ControlOf}
@@ -31,7 +32,7 @@ use Rattle.isa.specs.declared.answer.Far.the-variants.{Nothing}
 use Rattle.isa.proofs.Tests.{either, decided, no-both}
 use Rattle.laws.specs.Statement.{fetchOutcome, fetchRing, fetchedCore, fetchedTables, Executes}
 use Rattle.laws.specs.Statement.{ExtendedStays, LowRingKeepsExtended, LowRingRunKeepsExtended}
-use Rattle.laws.specs.Statement.{SetsFlagAlone, SexSetsRexClears, PhysicalByAddress}
+use Rattle.laws.specs.Statement.{LowRingRunKeepsDevices, SetsFlagAlone, SexSetsRexClears, PhysicalByAddress}
 use Rattle.laws.proofs.Fetch.{fetch-keeps, after-fetch-file, after-fetch-control}
 use Rattle.laws.proofs.Stages.{Keeping, step-keeps, executed-step}
 use Rattle.laws.proofs.Steady.{Steady, step-steady}
@@ -40,8 +41,8 @@ use Rattle.laws.proofs.Rings.{not-privileged}
 
 -- ---- nothing but SEX and REX changes the flag
 
-abbrev IsSwitch : ControlOp → Type 0
-IsSwitch o = (o ≡ Sex) ⊎ (o ≡ Rex)
+abbrev IsSwitch : System → Type 0
+IsSwitch o = (o ≡ ControlOf Sex) ⊎ (o ≡ ControlOf Rex)
 
 abbrev Flag : ℕ → Control → Type 0
 Flag x k = k .extended ≡ x
@@ -55,6 +56,7 @@ flag-steady x = record {
   reading = λ k none q. q;
   setting = λ k none q. absurd (none (inl refl));
   clearing = λ k none q. absurd (none (inr refl));
+  devices = λ o i none f k p d q. q;
 }
 
 pub extended-stays : ExtendedStays
@@ -62,38 +64,47 @@ extended-stays s m t sex rex =
     let x : ℕ = s .added .extended in
     step-steady (Flag x) IsSwitch (λ n. Unit {0}) (flag-steady x) s m t none refl tt
   where
-    none : (o : ControlOp) → IsSwitch o → Executes (ControlOf o) s m t → ⊥
-    none o (inl e) h = sex (subst (λ (p : ControlOp). Executes (ControlOf p) s m t) e h)
-    none o (inr e) h = rex (subst (λ (p : ControlOp). Executes (ControlOf p) s m t) e h)
+    none : (o : System) → IsSwitch o → Executes o s m t → ⊥
+    none o (inl e) h = sex (subst (λ (p : System). Executes p s m t) e h)
+    none o (inr e) h = rex (subst (λ (p : System). Executes p s m t) e h)
 
 -- ---- ring 0 and 1
 
--- paging is on and the flag x
-abbrev LowControl : ℕ → Control → Type 0
-LowControl x k = (k .paging ≡ 1) × (k .extended ≡ x)
+-- paging is on, and the flag and the devices are those of k₀
+abbrev LowControl : Control → Control → Type 0
+LowControl k₀ k = (k .paging ≡ 1) × (k .extended ≡ k₀ .extended) × (k .devices ≡ k₀ .devices)
 
-record Low (x : ℕ) (c : Core) : Type 0 where
+record Low (k₀ : Control) (c : Core) : Type 0 where
   ring : ringOf (c .pcr) ≤ 1
-  control : LowControl x (c .control)
+  control : LowControl k₀ (c .control)
+
+abbrev LowState : Control → State → Type 0
+LowState k₀ s = Low k₀ (coreOf s)
+
+-- a machine on ring 0 or 1 with paging on, at its start
+low-start : (s : State) → s .control .paging ≡ 1 → ringOf (startPcr s) ≤ 1 → LowState (controlOf s) s
+low-start s on low = record { ring = low; control = (on, refl, refl) }
 
 -- a fetch may lower the ring
-fetched-low : (x : ℕ) (s : State) (m t : List ℕ) → Low x (coreOf s) → Low x (fetchedCore s m t)
-fetched-low x s m t h =
+fetched-low : (k₀ : Control) (s : State) (m t : List ℕ) → LowState k₀ s → Low k₀ (fetchedCore s m t)
+fetched-low k₀ s m t h =
     let l = h .ring in
-    fetch-keeps (coreOf s) (fetchRing s t) (fetchOutcome s m t) (Low x)
+    fetch-keeps (coreOf s) (fetchRing s t) (fetchOutcome s m t) (Low k₀)
     (λ i. record { ring = omega arith; control = h .control }) h
 
 -- so no privileged instruction is executed
-none-executed : (x : ℕ) (o : System) (s : State) (m t : List ℕ) → Low x (coreOf s) → Executes o s m t → ⊥
-none-executed x o s m t h e =
-    let d = fetched-low x s m t h in
+low-executes : (k₀ : Control) (o : System) (s : State) (m t : List ℕ) → LowState k₀ s → Executes o s m t → ⊥
+low-executes k₀ o s m t h e =
+    let d = fetched-low k₀ s m t h in
     no-both (sym (not-privileged (fetchedCore s m t) (d .control .0) (d .ring)) ∙ e .permitted)
+
+pub none-executed : (o : System) (s : State) (m t : List ℕ) → s .control .paging ≡ 1 → ringOf (startPcr s) ≤ 1
+    → Executes o s m t → ⊥
+none-executed o s m t on low = low-executes (controlOf s) o s m t (low-start s on low)
 
 pub low-ring-keeps-extended : LowRingKeepsExtended
 low-ring-keeps-extended s m t on low =
-    let x : ℕ = s .added .extended in
-    let h : Low x (coreOf s) = record { ring = low; control = (on, refl) } in
-    extended-stays s m t (none-executed x (ControlOf Sex) s m t h) (none-executed x (ControlOf Rex) s m t h)
+    extended-stays s m t (none-executed (ControlOf Sex) s m t on low) (none-executed (ControlOf Rex) s m t on low)
 
 -- ---- a run to the first interrupt on ring 0 or 1
 
@@ -107,51 +118,54 @@ put-ring p l v h = go (decLt l (length p))
         let out : length p ≤ l = omega arith in
         rw (set-out p l v out, List·getD-eq-default p 0 {n = l} out) (omega arith)
 
--- an interrupt, and an access that fails, leave paging and the flag
-interrupted-low : (x n : ℕ) (k : Control) → LowControl x k → LowControl x (interrupted n k)
+-- an interrupt, and an access that fails, leave paging, the flag and the devices
+interrupted-low : (k₀ : Control) (n : ℕ) (k : Control) → LowControl k₀ k → LowControl k₀ (interrupted n k)
 unfolding interrupted
-interrupted-low x n k h = either (LowControl x) (eqb (bit n (k .iie)) 1) h h
+interrupted-low k₀ n k h = either (LowControl k₀) (eqb (bit n (k .iie)) 1) h h
 
-faulted-low : (x : ℕ) (y : Translation) (c : Core) → Low x c → Low x (faulted y c)
+faulted-low : (k₀ : Control) (y : Translation) (c : Core) → Low k₀ c → Low k₀ (faulted y c)
 unfolding faulted
-faulted-low x y c h =
-    record { ring = h .ring; control = interrupted-low x (faultOf y) (withPgs (c .control) y) (h .control) }
+faulted-low k₀ y c h =
+    record { ring = h .ring; control = interrupted-low k₀ (faultOf y) (withPgs (c .control) y) (h .control) }
 
-abbrev LowState : ℕ → State → Type 0
-LowState x s = Low x (coreOf s)
-
-low-keeping : (x : ℕ) → Keeping (Low x) (LowState x) (λ n. Unit {0})
-low-keeping x = record {
+low-keeping : (k₀ : Control) → Keeping (Low k₀) (LowState k₀) (λ n. Unit {0})
+low-keeping k₀ = record {
   file = λ c f h. record { ring = h .ring; control = h .control };
-  trap = λ n c h. record { ring = h .ring; control = interrupted-low x n (c .control) (h .control) };
-  fail = λ y c h f. faulted-low x y c h;
+  trap = λ n c h. record { ring = h .ring; control = interrupted-low k₀ n (c .control) (h .control) };
+  fail = λ y c h f. faulted-low k₀ y c h;
   back = λ s c h. record { ring = put-ring (s .pcr) (s .level) (c .pcr) (h .ring); control = h .control };
   regs = λ s b h. record { ring = h .ring; control = h .control };
 }
 
 -- a step, where no change of level is due
-low-step : (x : ℕ) (s : State) (m t : List ℕ) → changeDue s ≡ false → LowState x s → LowState x (step s m t .state)
-low-step x s m t stays h =
-    step-keeps (Low x) (LowState x) (λ n. Unit {0}) (low-keeping x) s m t h (fetched-low x s m t h) h
-    (λ e. absurd (no-both (sym stays ∙ e))) (λ o e. absurd (none-executed x o s m t h e)) tt
+low-step : (k₀ : Control) (s : State) (m t : List ℕ) → changeDue s ≡ false → LowState k₀ s
+    → LowState k₀ (step s m t .state)
+low-step k₀ s m t stays h =
+    step-keeps (Low k₀) (LowState k₀) (λ n. Unit {0}) (low-keeping k₀) s m t h (fetched-low k₀ s m t h) h
+    (λ e. absurd (no-both (sym stays ∙ e))) (λ o e. absurd (low-executes k₀ o s m t h e)) tt
 
 -- after k steps, with n to go
-low-run : (x n k : ℕ) (s : State) (m t : List ℕ) → LowState x s → LowState x (runFrom true n k s m t .state)
-low-run x zero k s m t h =
-    let Kept : Run → Type 0 = λ r. LowState x (r .state) in
+low-run : (k₀ : Control) (n k : ℕ) (s : State) (m t : List ℕ) → LowState k₀ s
+    → LowState k₀ (runFrom true n k s m t .state)
+low-run k₀ zero k s m t h =
+    let Kept : Run → Type 0 = λ r. LowState k₀ (r .state) in
     either Kept (isStopped s) h (either Kept (changeDue s) h h)
-low-run x (suc n) k s m t h =
-    let Kept : Run → Type 0 = λ r. LowState x (r .state) in
+low-run k₀ (suc n) k s m t h =
+    let Kept : Run → Type 0 = λ r. LowState k₀ (r .state) in
     let r : Turn = step s m t in
     either Kept (isStopped s) h
     (decided Kept (changeDue s) {y = afterStep true (runFrom true n) k r} (λ e. h)
     (λ stays.
-    let q : LowState x (r .state) = low-step x s m t stays h in
-    either Kept (not (eqb (r .gave) 0)) q (low-run x n (suc k) (r .state) (r .memory) (r .tables) q)))
+    let q : LowState k₀ (r .state) = low-step k₀ s m t stays h in
+    either Kept (not (eqb (r .gave) 0)) q (low-run k₀ n (suc k) (r .state) (r .memory) (r .tables) q)))
 
 pub low-ring-run-keeps-extended : LowRingRunKeepsExtended
 low-ring-run-keeps-extended n s m t on low =
-    low-run (s .added .extended) n 0 s m t (record { ring = low; control = (on, refl) }) .control .1
+    low-run (controlOf s) n 0 s m t (low-start s on low) .control .1
+
+pub low-ring-run-keeps-devices : LowRingRunKeepsDevices
+low-ring-run-keeps-devices s m t n on low =
+    low-run (controlOf s) n 0 s m t (low-start s on low) .control .2
 
 -- ---- SEX and REX
 

@@ -8,7 +8,7 @@ use mathlib.Core.List.{List}
 use lib.ListN.{getD, set, length, length-set}
 use lib.Seq.{set-getD}
 use lib.Dec.{ltb, eqb}
-use Rattle.isa.specs.Machine.{next, nextCore, fileAt, putFile, coreOf, withCore}
+use Rattle.isa.specs.Machine.{reg, next, nextCore, fileAt, putFile, coreOf, withCore}
 use Rattle.isa.specs.Address.{sum}
 use Rattle.isa.specs.Instructions.{indirectRequest, request, complete, Completed}
 use Rattle.isa.specs.Pages.{firstWord, translate, marked, testAll, Tested, passes, wordAt, wordsAt, rightsOf}
@@ -18,12 +18,15 @@ use Rattle.isa.specs.Step.{Part, Turn, faulted, failed, trapped, finished, oper
 use Rattle.isa.specs.Step.{userStage, physicalAddress, examined, deposited, transferStage, systemStage, privileged}
 use Rattle.isa.specs.Step.{instructionStage, instructionOf, afterFetch, fetched, fetchOf, stepIn, placeOf, registerAt}
 use Rattle.isa.specs.Step.{blockRequest, blockFailed, blockStored, blockLoaded, blockTested, farStage, settled}
-use Rattle.isa.specs.Step.{isStopped, changeDue, step}
+use Rattle.isa.specs.Step.{deviceStage, identStage, isStopped, changeDue, step}
+use Rattle.isa.specs.InputOutput.{registerOf, answers, lineOf, flipFlop}
 use Rattle.isa.specs.declared.machine.Control.{Control}
 use Rattle.isa.specs.declared.machine.Core.{Core}
 use Rattle.isa.specs.declared.machine.File.{File}
 use Rattle.isa.specs.declared.machine.State.{State}
-use Rattle.isa.specs.declared.machine.Register.the-variants.{P}
+use Rattle.isa.specs.declared.machine.Register.the-variants.{P, T}
+use Rattle.isa.specs.declared.device.DeviceRegister.{DeviceRegister}
+use Rattle.isa.specs.declared.device.Line.{Line}
 use Rattle.isa.specs.declared.instruction.User.{User}
 use Rattle.isa.specs.declared.instruction.System.{System}
 use Rattle.isa.specs.declared.instruction.System.the-variants.{Control as ControlOf, TraPgc, TrrPcr, Irr, Irw, Srb, Lrb}
@@ -159,6 +162,16 @@ module _ (K : List ℕ → Type 0) (flag : ℕ) (mark : Lasting (eqb flag 1) K) 
         let x = firstFault (firstPlace form (length m) o p) (secondPlace form (length m) o p) in
         either (Leaves (c .file) m) (passes x) (no-fault false) (failed-leaves c x t h)
 
+    device-leaves : (c : Core) (t : List ℕ) (r : DeviceRegister) → K t → Leaves (c .file) m (deviceStage c m t r)
+    unfolding deviceStage
+    device-leaves c t r h = either (Leaves (c .file) m) (answers r) (no-fault false) (trapped-leaves 7 c t h)
+
+    ident-leaves : (c : Core) (t : List ℕ) (i : Line) → K t → Leaves (c .file) m (identStage c m t i)
+    unfolding identStage
+    ident-leaves c t i h =
+        either (Leaves (c .file) m) (eqb (flipFlop (c .control .devices) i) 1) (no-fault false)
+        (trapped-leaves 7 c t h)
+
     system-leaves : (l : ℕ) (c : Core) (t : List ℕ) (o : System) → SameForm c → K t
         → Leaves (c .file) m (systemStage l c m t o)
     system-leaves l c t (ControlOf o) q h = no-fault false
@@ -171,9 +184,9 @@ module _ (K : List ℕ → Type 0) (flag : ℕ) (mark : Lasting (eqb flag 1) K) 
     system-leaves l c t Exam q h = examined-leaves c t h
     system-leaves l c t Depo q h = deposited-leaves c t h
     system-leaves l c t (Physical o d) q h = transfer-leaves c t o d h
-    system-leaves l c t (Iox n) q h = trapped-leaves 7 c t h
-    system-leaves l c t Ioxt q h = trapped-leaves 7 c t h
-    system-leaves l c t (Ident n) q h = trapped-leaves 7 c t h
+    system-leaves l c t (Iox n) q h = device-leaves c t (registerOf n) h
+    system-leaves l c t Ioxt q h = device-leaves c t (registerOf (reg (c .file) T)) h
+    system-leaves l c t (Ident n) q h = ident-leaves c t (lineOf n) h
 
     -- ---- fetch and execute
 

@@ -8,5 +8,7 @@ pub mod Faults
 pub mod Rings
 pub mod Status
 pub mod Extended
+pub mod Devices
+pub mod DeviceInput
 pub mod Views
 pub mod Numbers

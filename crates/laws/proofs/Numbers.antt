@@ -8,7 +8,7 @@ use lib.ListN.{getD, length}
 use lib.Dec.{ltb, eqb}
 use Rattle.isa.specs.Machine.{sizesFit, inRange}
 use Rattle.isa.specs.Step.{step}
-use Rattle.isa.specs.Run.{runFrom}
+use Rattle.isa.specs.Run.{Run, runFrom}
 use Rattle.isa.specs.Images.{ImageEntry, contents, bodies, contentsFit, knownKind, sizeOf, meetsAny, entriesAnswer}
 use Rattle.isa.specs.Images.{namedWords}
 use Rattle.isa.specs.Images.{loadedState, imageSize}
@@ -17,7 +17,10 @@ use Rattle.isa.specs.Answers.{deviceLevel, levelAnswer, raiseCallBy, raiseCall,
 use Rattle.isa.specs.Answers.{loadCall, outputAnswer, writeAnswer, targetOf, viewAnswer, Told, answerNumbers}
 use Rattle.isa.specs.Answers.{stepNumbers}
 use Rattle.isa.specs.Answers.{runNumbers, tellsBy, stateTests, stepTold, runTold, raiseTold, entryTests, loadTold}
-use Rattle.isa.specs.Answers.{writeTold, viewTold}
+use Rattle.isa.specs.Answers.{writeTold, viewTold, sentNumbers, tickCallBy, tickCall, tickTold, isUnread}
+use Rattle.isa.specs.Answers.{unreadAnswer, typeCallBy, typeCall, typeTold, waits, readOutCallBy, readOutCall}
+use Rattle.isa.specs.Answers.{readOutTold}
+use Rattle.isa.specs.DeviceInput.{Given, inputRunFrom, inputRunCallBy, inputRunCall, inputRunTold}
 use Rattle.isa.specs.declared.machine.State.{State}
 use Rattle.isa.specs.declared.answer.Reason.{Reason}
 use Rattle.isa.specs.declared.answer.Reason.the-variants.{Stopped, Level, Spent, Interrupt}
@@ -25,10 +28,13 @@ use Rattle.isa.specs.declared.answer.Target.{Target}
 use Rattle.isa.specs.declared.answer.Refusal.{Refusal}
 use Rattle.isa.specs.declared.answer.Refusal.the-variants.{Sizes, State as StateRange, RaiseLevel, Contents, Kind}
 use Rattle.isa.specs.declared.answer.Refusal.the-variants.{Target as TargetSize, Overlap, Bodies, View, Output}
+use Rattle.isa.specs.declared.answer.Refusal.the-variants.{Unread}
 use Rattle.isa.specs.declared.answer.StepAnswer.{StepAnswer}
 use Rattle.isa.specs.declared.answer.StepAnswer.the-variants.{Stepped, Refused as StepRefused}
 use Rattle.isa.specs.declared.answer.RunAnswer.{RunAnswer}
 use Rattle.isa.specs.declared.answer.RunAnswer.the-variants.{Ran, Refused as RunRefused}
+use Rattle.isa.specs.declared.answer.SentAnswer.{SentAnswer}
+use Rattle.isa.specs.declared.answer.SentAnswer.the-variants.{Sent, NoneSent, Refused as SentRefused}
 use Rattle.isa.specs.declared.answer.Answer.{Answer}
 use Rattle.isa.specs.declared.answer.Answer.the-variants.{Done, Refused}
 use Rattle.isa.proofs.Refusals.{refusalAt, refusal-again, refusal-above, decides}
@@ -68,6 +74,17 @@ run-again : (a : RunAnswer) → runAt (runNumbers a) ≡ a
 run-again (Ran k w) = ap (Ran k) (reason-again w)
 run-again (RunRefused x) = rw (refusal-above x) (ap RunRefused (refusal-again x))
 
+-- of a read out, none is told apart from a character by having no value
+abbrev sentAt : Told → SentAnswer
+sentAt r =
+    cond (eqb (r .number) 0) (cond (eqb (length (r .values)) 0) NoneSent (Sent (getD (r .values) 0 0)))
+    (SentRefused (refusalAt (r .number)))
+
+sent-again : (a : SentAnswer) → sentAt (sentNumbers a) ≡ a
+sent-again (Sent w) = refl
+sent-again NoneSent = refl
+sent-again (SentRefused x) = rw (refusal-above x) (ap SentRefused (refusal-again x))
+
 pub numbers-decide : NumbersDecide
 numbers-decide = record {
   refusal = decides refusalNumber refusalAt refusal-again;
@@ -75,6 +92,7 @@ numbers-decide = record {
   answer = decides answerNumbers answerAt answer-again;
   step = decides stepNumbers stepAt step-again;
   run = decides runNumbers runAt run-again;
+  sent = decides sentNumbers sentAt sent-again;
 }
 
 -- ---- each operation's tests
@@ -133,6 +151,61 @@ raise-tells s l m t = go (stateAnswer s m t) ∙ state-tells s m t ((not (device
     go : (a : Answer) → answerNumbers (raiseCallBy (levelAnswer l a) s l .answer)
         ≡ after a (tellsBy ((not (deviceLevel l), 3) ∷ []) [])
     go Done = level (deviceLevel l)
+    go (Refused x) = refl
+
+tick-tells : (s : State) (m t : List ℕ) → answerNumbers (tickCall s m t .answer) ≡ tickTold s m t
+unfolding tickCall tickTold
+tick-tells s m t = go (stateAnswer s m t) ∙ state-tells s m t [] []
+  where
+    go : (a : Answer) → answerNumbers (tickCallBy a s .answer) ≡ after a (tellsBy [] [])
+    go Done = refl
+    go (Refused x) = refl
+
+type-tells : (s : State) (w : ℕ) (m t : List ℕ) → answerNumbers (typeCall s w m t .answer) ≡ typeTold s m t
+unfolding typeCall typeTold
+type-tells s w m t = go (stateAnswer s m t) ∙ state-tells s m t ((isUnread s, 11) ∷ []) []
+  where
+    unread : (b : Bool) → answerNumbers (typeCallBy (cond b (Refused Unread) Done) s w .answer)
+        ≡ tellsBy ((b, 11) ∷ []) []
+    unread true = refl
+    unread false = refl
+
+    go : (a : Answer) → answerNumbers (typeCallBy (unreadAnswer s a) s w .answer)
+        ≡ after a (tellsBy ((isUnread s, 11) ∷ []) [])
+    go Done = unread (isUnread s)
+    go (Refused x) = refl
+
+read-out-tells : (s : State) (m t : List ℕ) → sentNumbers (readOutCall s m t .answer) ≡ readOutTold s m t
+unfolding readOutCall readOutTold
+read-out-tells s m t = go (stateAnswer s m t) ∙ state-tells s m t [] (values (waits s))
+  where
+    w : ℕ
+    w = s .devices .output .character
+
+    values : Bool → List ℕ
+    values b = cond b (w ∷ []) []
+
+    sent : (b : Bool) → sentNumbers (cond b (Sent w) NoneSent) ≡ tellsBy [] (values b)
+    sent true = refl
+    sent false = refl
+
+    go : (a : Answer) → sentNumbers (readOutCallBy a s .answer) ≡ after a (tellsBy [] (values (waits s)))
+    go Done = sent (waits s)
+    go (Refused x) = refl
+
+input-run-tells : (n : ℕ) (gs : List Given) (s : State) (m t : List ℕ)
+    → runNumbers (inputRunCall n gs s m t .answer) ≡ inputRunTold n gs s m t
+unfolding inputRunCall inputRunTold
+input-run-tells n gs s m t = go (stateAnswer s m t) ∙ state-tells s m t [] values
+  where
+    r : Run
+    r = inputRunFrom n gs 0 s m t .run
+
+    values : List ℕ
+    values = r .steps ∷ reasonNumber (r .reason) ∷ []
+
+    go : (a : Answer) → runNumbers (inputRunCallBy a n gs s m t .answer) ≡ after a (tellsBy [] values)
+    go Done = refl
     go (Refused x) = refl
 
 write-tells : (s : State) (m t out : List ℕ) → answerNumbers (writeAnswer s m t out) ≡ writeTold s m t out
@@ -212,6 +285,10 @@ calls-tell = record {
   step = step-tells;
   run = run-tells;
   raise = raise-tells;
+  tick = tick-tells;
+  typed = type-tells;
+  read-out = read-out-tells;
+  input-run = input-run-tells;
   load = load-tells;
   write = write-tells;
   view = view-tells;

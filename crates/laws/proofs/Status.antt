@@ -1,33 +1,31 @@
 -- PGS and whether it is held, through a step and through a run.
 -- Assumes nothing.
-use Prim.Native.Nat.{ℕ, _+_, _*_}
+use Prim.Native.Nat.{ℕ}
 use native.Mathlib.Omega.{arith}
 use mathlib.Core.Path.{_≡_, refl, sym, ap, subst, _∙_}
 use mathlib.Core.List.{List}
-use lib.ListN.{getD}
 use lib.Dec.{eqb}
 use borrow.Author.Tests.{eq-eqb, ne-eqb}
-use Rattle.isa.specs.Machine.{fileSize, number, reg, withReg, next, controlOf, putFile, coreOf}
+use Rattle.isa.specs.Machine.{controlOf, coreOf}
 use Rattle.isa.specs.System.{withPagingStatus}
 use Rattle.isa.specs.Pages.{pgsAfter, firstStatus, heldAfter, faultOf}
-use Rattle.isa.specs.Step.{Turn, withPgs, placeOf, registerAt, farStage, settled}
+use Rattle.isa.specs.Step.{Turn, withPgs, registerAt, farStage, settled}
 use Rattle.isa.specs.declared.machine.Control.{Control}
-use Rattle.isa.specs.declared.machine.File.{File}
 use Rattle.isa.specs.declared.machine.Register.the-variants.{A}
 use Rattle.isa.specs.declared.machine.State.{State}
 use Rattle.isa.specs.declared.instruction.Readable.the-variants.{Pgs}
-use Rattle.isa.specs.declared.instruction.ControlOp.{ControlOp}
 use Rattle.isa.specs.declared.instruction.ControlOp.the-variants.{Tra}
+use Rattle.isa.specs.declared.instruction.System.{System}
 use Rattle.isa.specs.declared.instruction.System.the-variants.{Control as ControlOf}
 use Rattle.isa.specs.declared.access.Translation.{Translation}
 use Rattle.isa.specs.declared.access.Translation.the-variants.{NoAccess, Load, Store, LoadTable, StoreTable, Protection}
 use Rattle.isa.specs.declared.access.Translation.the-variants.{PageFault, OutOfRange}
 use Rattle.isa.proofs.Tests.{either}
-use Rattle.isa.proofs.Packing.{register-at, take-put}
-use Rattle.laws.specs.Statement.{fetchOutcome, fetchRing, fetchedCore, Executes, ReadsPgs, SameStatus}
+use Rattle.laws.specs.Statement.{fetchOutcome, fetchRing, fetchedTables, Executes, ReadsPgs, SameStatus}
 use Rattle.laws.specs.Statement.{HeldFaultStays, HeldStatusStays, StatusStays, ReadingReleases, ReadingGives}
 use Rattle.laws.specs.Statement.{FirstFaultHeld, HeldThroughRun}
 use Rattle.laws.proofs.Fetch.{after-fetch-control}
+use Rattle.laws.proofs.Registers.{register-after}
 use Rattle.laws.proofs.Stages.{executed-step}
 use Rattle.laws.proofs.Steady.{Steady, step-steady, run-steady}
 
@@ -55,8 +53,8 @@ held-fault-stays k x h =
 
 -- F is what is supposed of the interrupt given, such that a failed access leaves both; no instruction but TRA PGS sets
 -- them
-abbrev IsRead : ControlOp → Type 0
-IsRead o = o ≡ Tra Pgs
+abbrev IsRead : System → Type 0
+IsRead o = o ≡ ControlOf (Tra Pgs)
 
 status-steady : (k₀ : Control) (F : ℕ → Type 0)
     → ((k : Control) (x : Translation) → SameStatus k₀ k → F (faultOf x) → SameStatus k₀ (withPgs k x))
@@ -69,12 +67,12 @@ status-steady k₀ F leaves = record {
   reading = λ k none q. absurd (none refl);
   setting = λ k none q. q;
   clearing = λ k none q. q;
+  devices = λ o i none f k p d q. q;
 }
 
 -- no TRA PGS is executed
-none-read : {s : State} {m t : List ℕ} → (ReadsPgs s m t → ⊥) → (o : ControlOp) → IsRead o
-    → Executes (ControlOf o) s m t → ⊥
-none-read {s} {m} {t} none o e x = none (subst (λ (p : ControlOp). Executes (ControlOf p) s m t) e x)
+none-read : {s : State} {m t : List ℕ} → (ReadsPgs s m t → ⊥) → (o : System) → IsRead o → Executes o s m t → ⊥
+none-read {s} {m} {t} none o e x = none (subst (λ (p : System). Executes p s m t) e x)
 
 -- a held PGS: any interrupt may be given
 held-steady : (k₀ : Control) → k₀ .held ≡ 1 → Steady (SameStatus k₀) IsRead (λ n. Unit {0})
@@ -129,16 +127,9 @@ reading-releases s m t h =
     (after-fetch-control (coreOf s) (fetchRing s t) (fetchOutcome s m t))
 
 pub reading-gives : ReadingGives
-unfolding settled farStage
 reading-gives s m t l n h =
-    let d = fetchedCore s m t in
-    let f : File = withReg (next (d .file)) A (d .control .pgs) in
-    let b = putFile (s .regs) (s .level) f in
-    let place : placeOf (s .level) A ≡ s .level * fileSize + number A = omega arith in
     ap (λ (r : Turn). registerAt (r .state) (s .level) A) (executed-step h)
-    ∙ ap (λ (i : ℕ). getD b i 0) place
-    ∙ register-at b (s .level) A
-    ∙ ap (λ (f : File). reg f A) (take-put (s .regs) (s .level) l n f)
+    ∙ register-after s l A n _ 0 m (fetchedTables s m t)
     ∙ ap (λ (k : Control). k .pgs) (after-fetch-control (coreOf s) (fetchRing s t) (fetchOutcome s m t))
 
 -- ---- a run

@@ -2,21 +2,32 @@
 -- Assumes nothing.
 use Prim.Native.Nat.{ℕ, zero, suc, _+_, _<_}
 use native.Mathlib.Omega.{arith}
-use mathlib.Core.Path.{_≡_, refl, sym, subst}
+use mathlib.Core.Path.{sym, subst}
 use mathlib.Core.Bool.{Bool, not, _&&_}
 use mathlib.Core.List.{List}
 use lib.ListN.{length}
 use lib.Dec.{ltb, eqb}
-use Rattle.isa.specs.Machine.{bit, withBit, controlOf, coreOf}
-use Rattle.isa.specs.System.{withSwitches, withLevels, withInternal, withPagingStatus, withExtended, controlled}
+use Rattle.isa.specs.Machine.{bit, withBit, reg, controlOf, coreOf}
+use Rattle.isa.specs.System.{withSwitches, withLevels, withInternal, withPagingStatus, withExtended, withDevices}
+use Rattle.isa.specs.System.{controlled}
+use Rattle.isa.specs.InputOutput.{registerOf, answers, exchanged, lineOf, flipFlop}
 use Rattle.isa.specs.Pages.{faultOf, passes}
 use Rattle.isa.specs.Physical.{transferAddress, firstPlace, secondPlace, firstFault}
 use Rattle.isa.specs.Step.{Part, Turn, part, interrupted, withPgs, faulted, physicalAddress, examined, deposited}
-use Rattle.isa.specs.Step.{transferStage, systemStage, isStopped, changeDue, levelChanged, step}
+use Rattle.isa.specs.Step.{transferStage, deviceStage, identStage, systemStage, farStage, settled, isStopped}
+use Rattle.isa.specs.Step.{changeDue, levelChanged, step}
 use Rattle.isa.specs.Run.{Run, runFrom}
 use Rattle.isa.specs.declared.machine.Control.{Control}
 use Rattle.isa.specs.declared.machine.Core.{Core}
 use Rattle.isa.specs.declared.machine.State.{State}
+use Rattle.isa.specs.declared.machine.Register.the-variants.{T}
+use Rattle.isa.specs.declared.device.Devices.{Devices}
+use Rattle.isa.specs.declared.device.DeviceRegister.{DeviceRegister}
+use Rattle.isa.specs.declared.device.DeviceRegister.the-variants.{ClockData, ClockCounter, ClockStatus, ClockControl}
+use Rattle.isa.specs.declared.device.DeviceRegister.the-variants.{InputData, InputNothing, InputStatus, InputControl}
+use Rattle.isa.specs.declared.device.DeviceRegister.the-variants.{OutputNothing, OutputData, OutputStatus}
+use Rattle.isa.specs.declared.device.DeviceRegister.the-variants.{OutputControl, NoRegister}
+use Rattle.isa.specs.declared.device.Line.{Line}
 use Rattle.isa.specs.declared.instruction.Readable.the-variants.{Status, Pgs, Pvl, Iic, Pid, Pie, Actl}
 use Rattle.isa.specs.declared.instruction.Writable.the-variants.{Status as ToStatus, Iie as ToIie, Pid as ToPid}
 use Rattle.isa.specs.declared.instruction.Writable.the-variants.{Pie as ToPie}
@@ -40,18 +51,27 @@ use Rattle.laws.proofs.Far.{settled-keeps}
 use Rattle.laws.proofs.Fetch.{after-fetch-control}
 use Rattle.laws.proofs.Stages.{Keeping, Claim, done-keeps, trapped-keeps, failed-keeps, step-keeps}
 
+-- the privileged instructions that reach the devices
+pub data ReachesDevices : System → Type 0 where
+  iox : (n : ℕ) → ReachesDevices (Iox n)
+  ioxt : ReachesDevices Ioxt
+  ident : (n : ℕ) → ReachesDevices (Ident n)
+
 -- K, of the control words, does not speak of those that levels, interrupts and switches change; an access that fails
--- keeps it where F holds of its interrupt; TRA PGS, SEX and REX do unless they are among those that Sets names
-pub record Steady (K : Control → Type 0) (Sets : ControlOp → Type 0) (F : ℕ → Type 0) : Type 0 where
+-- keeps it where F holds of its interrupt; TRA PGS, SEX and REX do unless they are among those that Sets names, and so
+-- do IOX, IOXT and IDENT, which give no interrupt where they change PID or the devices
+pub record Steady (K : Control → Type 0) (Sets : System → Type 0) (F : ℕ → Type 0) : Type 0 where
   pub switches : (k : Control) (i p h : ℕ) → K k → K (withSwitches k i p h)
   pub levels : (k : Control) (d e v : ℕ) → K k → K (withLevels k d e v)
   pub internal : (k : Control) (d e : ℕ) → K k → K (withInternal k d e)
   pub fail : (k : Control) (x : Translation) → K k → F (faultOf x) → K (withPgs k x)
-  pub reading : (k : Control) → (Sets (Tra Pgs) → ⊥) → K k → K (withPagingStatus k (k .pgs) 0)
-  pub setting : (k : Control) → (Sets Sex → ⊥) → K k → K (withExtended k 1)
-  pub clearing : (k : Control) → (Sets Rex → ⊥) → K k → K (withExtended k 0)
+  pub reading : (k : Control) → (Sets (ControlOf (Tra Pgs)) → ⊥) → K k → K (withPagingStatus k (k .pgs) 0)
+  pub setting : (k : Control) → (Sets (ControlOf Sex) → ⊥) → K k → K (withExtended k 1)
+  pub clearing : (k : Control) → (Sets (ControlOf Rex) → ⊥) → K k → K (withExtended k 0)
+  pub devices : (o : System) → ReachesDevices o → (Sets o → ⊥) → F 0
+      → (k : Control) (p : ℕ) (d : Devices) → K k → K (withDevices k p d)
 
-module _ (K : Control → Type 0) (Sets : ControlOp → Type 0) (F : ℕ → Type 0) (keep : Steady K Sets F) where
+module _ (K : Control → Type 0) (Sets : System → Type 0) (F : ℕ → Type 0) (keep : Steady K Sets F) where
   abbrev In : Core → Type 0
   In c = K (c .control)
 
@@ -83,7 +103,7 @@ module _ (K : Control → Type 0) (Sets : ControlOp → Type 0) (F : ℕ → Typ
   abbrev Left : Part → Type 0
   Left = Claim In Of F keeping
 
-  controlled-keeps : (l : ℕ) (c : Core) (o : ControlOp) → (Sets o → ⊥) → In c → In (controlled l c o)
+  controlled-keeps : (l : ℕ) (c : Core) (o : ControlOp) → (Sets (ControlOf o) → ⊥) → In c → In (controlled l c o)
   controlled-keeps l c Ion none h = keep .switches _ _ _ _ h
   controlled-keeps l c Iof none h = keep .switches _ _ _ _ h
   controlled-keeps l c Pon none h = keep .switches _ _ _ _ h
@@ -138,10 +158,41 @@ module _ (K : Control → Type 0) (Sets : ControlOp → Type 0) (F : ℕ → Typ
   far-keeps c far m t h s =
       settled-keeps Of F (λ q b i. i) (λ q p i. i) (λ q x i f. faulted-keeps x (coreOf q) i f) s (part c 0 far m t) h
 
-  system-keeps : (l : ℕ) (c : Core) (m t : List ℕ) (o : System) → ((p : ControlOp) → o ≡ ControlOf p → Sets p → ⊥)
-      → In c → Left (systemStage l c m t o)
+  -- IOX, IOXT and IDENT: of the control words they change PID and the devices alone, which keeps K by e
+  module _ (e : (k : Control) (p : ℕ) (d : Devices) → K k → K (withDevices k p d)) where
+    exchanged-keeps : (c : Core) (r : DeviceRegister) → In c → In (exchanged c r)
+    exchanged-keeps c ClockData h = h
+    exchanged-keeps c ClockCounter h = h
+    exchanged-keeps c ClockStatus h = h
+    exchanged-keeps c ClockControl h = e _ _ _ h
+    exchanged-keeps c InputData h = e _ _ _ h
+    exchanged-keeps c InputNothing h = h
+    exchanged-keeps c InputStatus h = h
+    exchanged-keeps c InputControl h = e _ _ _ h
+    exchanged-keeps c OutputNothing h = h
+    exchanged-keeps c OutputData h = e _ _ _ h
+    exchanged-keeps c OutputStatus h = h
+    exchanged-keeps c OutputControl h = e _ _ _ h
+    exchanged-keeps c NoRegister h = h
+
+  -- .. where no interrupt is given
+  abbrev Changes : Type 0
+  Changes = F 0 → (k : Control) (p : ℕ) (d : Devices) → K k → K (withDevices k p d)
+
+  device-keeps : (c : Core) (m t : List ℕ) (r : DeviceRegister) → Changes → In c → Left (deviceStage c m t r)
+  unfolding deviceStage settled farStage
+  device-keeps c m t r e h =
+      either Left (answers r) (λ s f. exchanged-keeps (e f) c r h) (trapped-keeps In Of F keeping 7 c m t h)
+
+  ident-keeps : (c : Core) (m t : List ℕ) (i : Line) → Changes → In c → Left (identStage c m t i)
+  unfolding identStage settled farStage
+  ident-keeps c m t i e h =
+      either Left (eqb (flipFlop (c .control .devices) i) 1) (λ s f. e f _ _ _ h)
+      (trapped-keeps In Of F keeping 7 c m t h)
+
+  system-keeps : (l : ℕ) (c : Core) (m t : List ℕ) (o : System) → (Sets o → ⊥) → In c → Left (systemStage l c m t o)
   system-keeps l c m t (ControlOf o) none h =
-      done-keeps In Of F keeping (controlled l c o) 0 m t (controlled-keeps l c o (none o refl) h)
+      done-keeps In Of F keeping (controlled l c o) 0 m t (controlled-keeps l c o none h)
   system-keeps l c m t TraPgc none h = far-keeps c ReadPcr m t h
   system-keeps l c m t TrrPcr none h = far-keeps c WritePcr m t h
   system-keeps l c m t (Irr n r) none h = far-keeps c (ReadRegister n r) m t h
@@ -151,22 +202,23 @@ module _ (K : Control → Type 0) (Sets : ControlOp → Type 0) (F : ℕ → Typ
   system-keeps l c m t Exam none h = examined-keeps c m t h
   system-keeps l c m t Depo none h = deposited-keeps c m t h
   system-keeps l c m t (Physical o d) none h = transfer-keeps c m t o d h
-  system-keeps l c m t (Iox n) none h = trapped-keeps In Of F keeping 7 c m t h
-  system-keeps l c m t Ioxt none h = trapped-keeps In Of F keeping 7 c m t h
-  system-keeps l c m t (Ident n) none h = trapped-keeps In Of F keeping 7 c m t h
+  system-keeps l c m t (Iox n) none h = device-keeps c m t (registerOf n) (keep .devices (Iox n) (iox n) none) h
+  system-keeps l c m t Ioxt none h =
+      device-keeps c m t (registerOf (reg (c .file) T)) (keep .devices Ioxt ioxt none) h
+  system-keeps l c m t (Ident n) none h = ident-keeps c m t (lineOf n) (keep .devices (Ident n) (ident n) none) h
 
   -- ---- one step
 
   -- no instruction of Sets is executed
   abbrev None : State → List ℕ → List ℕ → Type 0
-  None s m t = (o : ControlOp) → Sets o → Executes (ControlOf o) s m t → ⊥
+  None s m t = (o : System) → Sets o → Executes o s m t → ⊥
 
   pub step-steady : (s : State) (m t : List ℕ) → None s m t → Of s → F (step s m t .gave) → Of (step s m t .state)
   unfolding levelChanged
   step-steady s m t none h =
       let after = subst K (sym (after-fetch-control (coreOf s) (fetchRing s t) (fetchOutcome s m t))) h in
       step-keeps In Of F keeping s m t h after h (λ e. keep .levels _ _ _ _ h)
-      (λ o x. system-keeps _ _ _ _ o (λ p e z. none p z (subst (λ (y : System). Executes y s m t) e x)) after)
+      (λ o x. system-keeps _ _ _ _ o (λ z. none o z x) after)
 
   -- ---- a run of either form
 

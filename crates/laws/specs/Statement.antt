@@ -7,7 +7,7 @@ use mathlib.Core.Bool.{Bool, true, false, cond, _||_}
 use mathlib.Core.List.{List, []}
 use lib.ListN.{getD, set, length}
 use lib.Dec.{eqb}
-use Rattle.isa.specs.Machine.{bit, reg, coreOf, ringOf, normalTableOf}
+use Rattle.isa.specs.Machine.{bit, flagOf, reg, coreOf, ringOf, normalTableOf, Typed, sizesFit, inRange}
 use Rattle.isa.specs.Address.{sum, access}
 use Rattle.isa.specs.System.{withPagingStatus, withExtended}
 use Rattle.isa.specs.Pages.{slotOf, entryAt, translate, marked, passes, wordAt, rightsOf}
@@ -17,7 +17,10 @@ use Rattle.isa.specs.Step.{isStopped, changeDue, step}
 use Rattle.isa.specs.Run.{runFrom}
 use Rattle.isa.specs.Answers.{refusalNumber, reasonNumber, answerNumbers, stepNumbers, runNumbers, stepTold, runTold}
 use Rattle.isa.specs.Answers.{raiseTold, loadTold, writeTold, viewTold, stepCall, runCall, raiseCall, loadCall}
-use Rattle.isa.specs.Answers.{writeAnswer, targetOf, viewAnswer, viewed}
+use Rattle.isa.specs.Answers.{writeAnswer, targetOf, viewAnswer, viewed, sentNumbers, characterSentOf, tickCall}
+use Rattle.isa.specs.Answers.{tickTold, typeCall, typeTold, readOutCall, readOutTold}
+use Rattle.isa.specs.InputOutput.{identCode, lineOf, flipFlop}
+use Rattle.isa.specs.DeviceInput.{Given, inputDone, inputCall, isSpent, inputRunCall, inputRunTold}
 use Rattle.isa.specs.Isolation.{MarksAlone, startPcr, startForm}
 use Rattle.isa.specs.declared.machine.Control.{Control}
 use Rattle.isa.specs.declared.machine.Core.{Core}
@@ -27,7 +30,7 @@ use Rattle.isa.specs.declared.instruction.Readable.the-variants.{Pgs}
 use Rattle.isa.specs.declared.instruction.ControlOp.{ControlOp}
 use Rattle.isa.specs.declared.instruction.ControlOp.the-variants.{Sex, Rex, Tra}
 use Rattle.isa.specs.declared.instruction.System.{System}
-use Rattle.isa.specs.declared.instruction.System.the-variants.{Control as ControlOf}
+use Rattle.isa.specs.declared.instruction.System.the-variants.{Control as ControlOf, Iox, Ioxt, Ident}
 use Rattle.isa.specs.declared.instruction.Instruction.{Instruction}
 use Rattle.isa.specs.declared.instruction.Instruction.the-variants.{Privileged}
 use Rattle.isa.specs.declared.access.AccessKind.{AccessKind}
@@ -39,8 +42,12 @@ use Rattle.isa.specs.declared.answer.Target.{Target}
 use Rattle.isa.specs.declared.answer.Refusal.{Refusal}
 use Rattle.isa.specs.declared.answer.StepAnswer.{StepAnswer}
 use Rattle.isa.specs.declared.answer.RunAnswer.{RunAnswer}
+use Rattle.isa.specs.declared.answer.SentAnswer.{SentAnswer}
+use Rattle.isa.specs.declared.answer.SentAnswer.the-variants.{NoneSent}
 use Rattle.isa.specs.declared.answer.Answer.{Answer}
 use Rattle.isa.specs.declared.answer.Answer.the-variants.{Done, Refused}
+use Rattle.isa.specs.declared.device.DeviceInput.the-variants.{Raise, Tick, Typed as TypedCharacter, ReadOut}
+use Rattle.ranges.specs.Sound.{Sound}
 
 -- ---- "So, not stopped and with interrupts on, a raised, enabled level that is highest runs after the next step."
 
@@ -236,6 +243,113 @@ PhysicalByAddress =
     → a < wordRange
     → translate t words r (access k alternate a) ≡ physicalPlace (r .extended) words k a
 
+-- ---- Document 02, card 1: "Fit the two devices .. so that IOX, IOXT and IDENT reach them"
+
+-- no step but one that executes IOX, IOXT or IDENT changes the devices, whatever else it does
+abbrev pub DevicesStay : Type 0
+DevicesStay =
+    (s : State) (m t : List ℕ) → ((n : ℕ) → Executes (Iox n) s m t → ⊥) → (Executes Ioxt s m t → ⊥)
+    → ((n : ℕ) → Executes (Ident n) s m t → ⊥)
+    → step s m t .state .devices ≡ s .devices
+
+-- nor does one that gives an interrupt, so none that gives 7
+abbrev pub InterruptKeepsDevices : Type 0
+InterruptKeepsDevices =
+    (s : State) (m t : List ℕ) → (step s m t .gave ≡ 0 → ⊥) → step s m t .state .devices ≡ s .devices
+
+-- with paging on, a step on ring 0 or 1 cannot change them, nor can a run to the first interrupt
+abbrev pub LowRingKeepsDevices : Type 0
+LowRingKeepsDevices =
+    (s : State) (m t : List ℕ) → s .control .paging ≡ 1 → ringOf (startPcr s) ≤ 1
+    → step s m t .state .devices ≡ s .devices
+
+abbrev pub LowRingRunKeepsDevices : Type 0
+LowRingRunKeepsDevices =
+    (s : State) (m t : List ℕ) (n : ℕ) → s .control .paging ≡ 1 → ringOf (startPcr s) ≤ 1
+    → runFrom true n 0 s m t .state .devices ≡ s .devices
+
+-- ---- "output is ready exactly while none waits"
+
+-- what IOX 306 gives A has bit 3, ready for transfer, exactly if no character waits
+abbrev pub ReadyWhileNoneWaits : Type 0
+ReadyWhileNoneWaits =
+    (s : State) (m t : List ℕ) → s .level < levelCount → length (s .regs) ≡ registerWords
+    → Executes (Iox 0o306) s m t
+    → bit 3 (registerAt (step s m t .state) (s .level) A) ≡ flagOf (eqb (s .devices .output .waits) 0)
+
+-- ---- "interrupt 7 stays .. for an IDENT that no device answers"
+
+-- rulings 34 and 35: an IDENT that is answered gives A the code 1, clears the flip-flop and leaves PID
+pub record Identified (n : ℕ) (s : State) (r : Turn) : Type 0 where
+  pub code : registerAt (r .state) (s .level) A ≡ identCode
+  pub flip-flop : flipFlop (r .state .devices) (lineOf n) ≡ 0
+  pub pid : r .state .control .pid ≡ s .control .pid
+
+abbrev pub IdentAnswered : Type 0
+IdentAnswered =
+    (n : ℕ) (s : State) (m t : List ℕ) → s .level < levelCount → length (s .regs) ≡ registerWords
+    → Executes (Ident n) s m t → step s m t .gave ≡ 0
+    → Identified n s (step s m t)
+
+-- one whose device does not ask, or that names none, gives 7 and leaves A
+abbrev pub IdentUnanswered : Type 0
+IdentUnanswered =
+    (n : ℕ) (s : State) (m t : List ℕ) → s .level < levelCount → length (s .regs) ≡ registerWords
+    → Executes (Ident n) s m t → (flipFlop (s .devices) (lineOf n) ≡ 1 → ⊥)
+    → (step s m t .gave ≡ 7) × (registerAt (step s m t .state) (s .level) A ≡ registerAt s (s .level) A)
+
+-- so a second one at once gives 7, whatever the first gave
+abbrev pub SecondIdent : Type 0
+SecondIdent =
+    (n : ℕ) (s : State) (m t : List ℕ) → Executes (Ident n) s m t
+    → let r = step s m t in Executes (Ident n) (r .state) (r .memory) (r .tables)
+    → step (r .state) (r .memory) (r .tables) .gave ≡ 7
+
+-- ---- "the character sent last is read out between steps, once, and else the answer is none"
+
+-- after a read out that is not refused, another answers none and changes nothing
+abbrev pub ReadOutOnce : Type 0
+ReadOutOnce =
+    (s : State) (m t : List ℕ) → Typed s → sizesFit m t ≡ true → inRange s ≡ true
+    → let r = readOutCall s m t in readOutCall (r .state) m t ≡ record { answer = NoneSent; state = r .state }
+
+-- ---- "gives them the same raises, ticks and typed characters and has sent ones read out at the same steps in the same
+-- ---- order (all this is the device input)"
+
+-- An input handed in within a run is answered as the operation of its name, of a read out the character or 256.
+pub record InputsAnswered (s : State) (m t : List ℕ) : Type 0 where
+  pub raise : (l : ℕ) → inputCall (Raise l) s ≡ inputDone (raiseCall s l m t)
+  pub tick : inputCall Tick s ≡ inputDone (tickCall s m t)
+  pub typed : (w : ℕ) → inputCall (TypedCharacter w) s ≡ inputDone (typeCall s w m t)
+  pub read-out : inputCall ReadOut s
+      ≡ (let r = readOutCall s m t in record { told = characterSentOf (r .answer); state = r .state })
+
+-- .. for sizes that fit and a state in range, as they are wherever a run from such a machine comes
+abbrev pub InputAsOperation : Type 0
+InputAsOperation = (s : State) (m t : List ℕ) → sizesFit m t ≡ true → inRange s ≡ true → InputsAnswered s m t
+
+abbrev pub InputWithinRun : Type 0
+InputWithinRun =
+    (n k : ℕ) (s : State) (m t : List ℕ) → Sound s m t → sizesFit m t ≡ true
+    → let r = runFrom true n k s m t in InputsAnswered (r .state) (r .memory) (r .tables)
+
+-- a run with no input is run to the first interrupt
+abbrev pub NoInputRun : Type 0
+NoInputRun =
+    (n : ℕ) (s : State) (m t : List ℕ)
+    → let r = runCall true n s m t in
+    inputRunCall n [] s m t
+    ≡ record { answer = r .answer; told = []; state = r .state; memory = r .memory; tables = r .tables }
+
+-- so that a run may stop at an input's step and go on from there: a run of a + b steps, of either form, is the run of
+-- a and, if that is spent, of b from what it left
+abbrev pub RunInTwo : Type 0
+RunInTwo =
+    (first : Bool) (a b k : ℕ) (s : State) (m t : List ℕ)
+    → let r = runFrom first a k s m t in
+    runFrom first (a + b) k s m t
+    ≡ cond (isSpent (r .reason)) (runFrom first b (r .steps) (r .state) (r .memory) (r .tables)) r
+
 -- ---- "View: .. It answers a part of the caller's memory or of the caller's page tables." "a refused view is empty"
 
 -- v is the n words of l from `start` on
@@ -264,6 +378,7 @@ pub record NumbersDecide : Type 0 where
   pub answer : (a b : Answer) → answerNumbers a ≡ answerNumbers b → a ≡ b
   pub step : (a b : StepAnswer) → stepNumbers a ≡ stepNumbers b → a ≡ b
   pub run : (a b : RunAnswer) → runNumbers a ≡ runNumbers b → a ≡ b
+  pub sent : (a b : SentAnswer) → sentNumbers a ≡ sentNumbers b → a ≡ b
 
 -- each operation answers with the number and values that its tests, in their order, give
 pub record CallsTell : Type 0 where
@@ -271,6 +386,11 @@ pub record CallsTell : Type 0 where
   pub run : (first : Bool) (n : ℕ) (s : State) (m t : List ℕ)
       → runNumbers (runCall first n s m t .answer) ≡ runTold first n s m t
   pub raise : (s : State) (l : ℕ) (m t : List ℕ) → answerNumbers (raiseCall s l m t .answer) ≡ raiseTold s l m t
+  pub tick : (s : State) (m t : List ℕ) → answerNumbers (tickCall s m t .answer) ≡ tickTold s m t
+  pub typed : (s : State) (w : ℕ) (m t : List ℕ) → answerNumbers (typeCall s w m t .answer) ≡ typeTold s m t
+  pub read-out : (s : State) (m t : List ℕ) → sentNumbers (readOutCall s m t .answer) ≡ readOutTold s m t
+  pub input-run : (n : ℕ) (gs : List Given) (s : State) (m t : List ℕ)
+      → runNumbers (inputRunCall n gs s m t .answer) ≡ inputRunTold n gs s m t
   pub load : (s : State) (i m t : List ℕ) → answerNumbers (loadCall s i m t .answer) ≡ loadTold i m t
   pub write : (s : State) (m t out : List ℕ) → answerNumbers (writeAnswer s m t out) ≡ writeTold s m t out
   pub view : (k : Target) (start n : ℕ) (m t : List ℕ)

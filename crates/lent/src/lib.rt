@@ -7,7 +7,7 @@ ghost use Rattle.lent.specs.Lent.{lentStep, lentRaise};
 use isa::answer::Answer;
 use isa::answer::StepAnswer;
 use isa::machine::State;
-use operations::raise::RaiseResult;
+use operations::raise::StateResult;
 use operations::raise::raise;
 use operations::step::StepResult;
 use operations::step::step;
@@ -40,14 +40,14 @@ pub fn step_lent(m: &mut State, mem: &mut [u16], tables: &mut [u16]) -> StepAnsw
 }
 
 // The state that raise leaves, and what it answers.
-fn raised_state(r: RaiseResult) -> State
+fn raised_state(r: StateResult) -> State
     ensures { λ s. ⌜ s ≡ r .state ⌝ }
 {
     let s = r.state;
     s
 }
 
-fn raise_answer(r: RaiseResult) -> Answer
+fn raise_answer(r: StateResult) -> Answer
     ensures { λ a. ⌜ a ≡ r .answer ⌝ }
 {
     let a = r.answer;

@@ -1,14 +1,17 @@
 -- What a host's call answers and leaves: the operations of document 01 over a state lent as words in image order, or as
 -- a record; and the conversions of document 02 over words.
 use Prim.Native.Nat.{ℕ}
-use mathlib.Core.Bool.{Bool, cond, _||_}
+use mathlib.Core.Bool.{Bool, cond, _&&_, _||_}
 use mathlib.Core.List.{List, [], _∷_, _++_}
-use lib.ListN.{take, drop, length}
+use lib.ListN.{length}
 use lib.Dec.{leb, eqb}
-use Rattle.isa.specs.Machine.{registerWords, stateWords, stateOf, controlWords}
-use Rattle.isa.specs.Answers.{StepCall, RunCall, StateCall, LoadCall, answerNumber, stepNumber, interruptGiven}
-use Rattle.isa.specs.Answers.{runNumber, stepsTaken, reasonNumber, stepCall, runCall, raiseCall, loadCall}
+use Rattle.isa.specs.Machine.{stateWords, stateIn, stateOrdered}
+use Rattle.isa.specs.Answers.{StepCall, RunCall, StateCall, ReadOutCall, LoadCall, answerNumber, stepNumber}
+use Rattle.isa.specs.Answers.{interruptGiven, runNumber, sentNumber, characterSentOf, stepsTaken, reasonNumber}
+use Rattle.isa.specs.Answers.{stepCall, runCall, raiseCall, tickCall, typeCall, readOutCall, loadCall}
 use Rattle.isa.specs.Answers.{writeAnswer, writtenOutput, viewAnswer, viewed, Told}
+use Rattle.isa.specs.DeviceInput.{InputRunCall, inputRunCall, givenOf}
+use Rattle.run_input.specs.Inputs.{onto}
 use Rattle.floating.specs.Conversions.{toLong, toShort, longNumbers, shortNumbers}
 use Rattle.isa.specs.declared.machine.State.{State}
 use Rattle.isa.specs.declared.answer.Answer.{Answer}
@@ -17,15 +20,9 @@ use Rattle.isa.specs.declared.answer.Target.the-variants.{Memory, Tables}
 use Rattle.isa.specs.declared.answer.RunAnswer.{RunAnswer}
 use Rattle.isa.specs.declared.answer.RunAnswer.the-variants.{Ran, Refused}
 
--- the state of 156 words in image order, 128 registers and 28 control words, and the words of a state
-abbrev pub stateIn : List ℕ → State
-stateIn w = stateOf (take registerWords w) (drop registerWords w)
-
-abbrev pub stateOrdered : State → List ℕ
-stateOrdered s = s .regs ++ controlWords s
-
--- the number of a call that is no operation: a state of other than 156 words, a view of an unknown kind or into too few
--- words, a conversion into other than the words of its form; document 02 gives 11 to 18 to its requests
+-- the number of a call that is no operation: a state of other than 168 words, a view of an unknown kind or into too few
+-- words, a conversion into other than the words of its form, device input in lists of other lengths; document 02 gives
+-- 11 to 18 to its requests
 abbrev pub badCall : ℕ
 badCall = 255
 
@@ -89,7 +86,7 @@ runEnd w y c =
 abbrev pub hostRun : Bool → ℕ → List ℕ → List ℕ → List ℕ → List ℕ → Left
 hostRun first n w m t y = called w m t y (runEnd w y (runCall first n (stateIn w) m t))
 
--- raise and load tell nothing
+-- raise, tick, a typed character and load tell nothing
 abbrev pub answerEnd : List ℕ → Answer → State → List ℕ → List ℕ → Left
 answerEnd w a s m t = callEnd (answerNumber a) s m t [] w []
 
@@ -102,6 +99,35 @@ lentRaiseEnd m t c = lentLeft (answerNumber (c .answer)) (c .state) m t []
 
 abbrev pub hostRaise : ℕ → List ℕ → List ℕ → List ℕ → Left
 hostRaise l w m t = called w m t [] (raiseEnd w m t (raiseCall (stateIn w) l m t))
+
+abbrev pub hostTick : List ℕ → List ℕ → List ℕ → Left
+hostTick w m t = called w m t [] (raiseEnd w m t (tickCall (stateIn w) m t))
+
+abbrev pub hostType : ℕ → List ℕ → List ℕ → List ℕ → Left
+hostType x w m t = called w m t [] (raiseEnd w m t (typeCall (stateIn w) x m t))
+
+-- a read out tells the character, or 256 for none
+abbrev pub readOutEnd : List ℕ → List ℕ → List ℕ → List ℕ → ReadOutCall → Left
+readOutEnd w y m t c =
+    callEnd (sentNumber (c .answer)) (c .state) m t (characterSentOf (c .answer) ∷ []) w y
+
+abbrev pub hostReadOut : List ℕ → List ℕ → List ℕ → List ℕ → Left
+hostReadOut w m t y = called w m t y (readOutEnd w y m t (readOutCall (stateIn w) m t))
+
+-- Run with device input tells, in the words for its inputs, what each that was handed in was told, the others staying;
+-- then how many these are, the steps and the reason's number. Lists of inputs of different lengths are no device input.
+abbrev pub inputRunEnd : List ℕ → List ℕ → List ℕ → InputRunCall → Left
+inputRunEnd w told y c =
+    callEnd (runNumber (c .answer)) (c .state) (c .memory) (c .tables)
+    (onto (c .told) told ++ (length (c .told) ∷ stepsTaken (c .answer) ∷ reasonGiven (c .answer) ∷ []))
+    w (told ++ y)
+
+abbrev pub hostInputRun : ℕ → List ℕ → List ℕ → List ℕ → List ℕ → List ℕ → List ℕ → List ℕ → Left
+hostInputRun n steps what told w m t y =
+    called w m t (told ++ y)
+    (cond (eqb (length steps) (length what) && eqb (length told) (length what))
+    (inputRunEnd w told y (inputRunCall n (givenOf steps what) (stateIn w) m t))
+    (leftOf badCall w m t (told ++ y)))
 
 abbrev pub loadEnd : List ℕ → LoadCall → Left
 loadEnd w c = answerEnd w (c .answer) (c .state) (c .memory) (c .tables)
@@ -122,10 +148,6 @@ knownTarget k = eqb k 1 || eqb k 4
 
 unfoldable pub targetNamed : ℕ → Target
 targetNamed k = cond (eqb k 1) Memory Tables
-
--- words put in front of an output, whose other words stay
-abbrev pub onto : List ℕ → List ℕ → List ℕ
-onto v o = v ++ drop (length v) o
 
 -- the call beside view; view into so many words; the output after it
 unfoldable pub hostViewAnswer : ℕ → ℕ → ℕ → List ℕ → List ℕ → ℕ

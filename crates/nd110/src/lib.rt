@@ -4,17 +4,18 @@
 ghost use mathlib.Core.Path.{_≡_};
 ghost use mathlib.Core.Bool.{true, false, cond};
 ghost use Prim.Native.Nat.{ℕ};
-ghost use mathlib.Core.List.{List, _∷_, []};
+ghost use mathlib.Core.List.{List, _∷_, [], _++_};
 ghost use lib.Dec.{eqb};
 ghost use lib.ListN.{length, take};
-ghost use Rattle.nd110.specs.Calls.{stateOrdered, leftOf, stepEnd, hostStep, runEnd, hostRun, reasonGiven};
+ghost use Rattle.nd110.specs.Calls.{leftOf, stepEnd, hostStep, runEnd, hostRun, reasonGiven};
 ghost use Rattle.nd110.specs.Calls.{answerEnd, hostRaise, hostLoad, hostWrite, hostWritten, knownTarget};
+ghost use Rattle.nd110.specs.Calls.{hostTick, hostType, readOutEnd, hostReadOut, hostInputRun};
 ghost use Rattle.nd110.specs.Calls.{targetNamed, hostViewAnswer, hostView, hostViewed};
 ghost use Rattle.nd110.specs.Calls.{lentLeft, lentStepEnd, lentRaiseEnd, outputLeft, hostToLong, hostToShort};
-ghost use Rattle.isa.specs.Machine.{levelCount, registerWords, stateWords};
-ghost use Rattle.isa.specs.Answers.{stepNumber, interruptGiven, stepCall, raiseCall, runCall};
+ghost use Rattle.isa.specs.Machine.{levelCount, registerWords, stateWords, stateOrdered};
+ghost use Rattle.isa.specs.Answers.{stepNumber, interruptGiven, runNumber, stepsTaken, stepCall, raiseCall, runCall};
 ghost use Rattle.run.specs.Runs.{stepCalled};
-ghost use Rattle.operations.specs.Calls.{runOf};
+ghost use Rattle.operations.specs.Calls.{runOf, readOutOf};
 use floating::form::Long;
 use floating::form::LongAnswer;
 use floating::form::Short;
@@ -25,24 +26,34 @@ use image_load::bodies::control_of;
 use image_load::bodies::pcrs_of;
 use image_load::bodies::state_in;
 use image_write::put_control;
+use image_write::put_devices;
 use isa::answer::Answer;
 use isa::answer::RunAnswer;
 use isa::answer::StepAnswer;
 use isa::answer::Target;
+use isa::constant::FIRST_DEVICE;
 use isa::constant::KIND_MEMORY;
 use isa::constant::KIND_TABLES;
 use isa::constant::REGISTER_WORDS;
 use isa::constant::STATE_WORDS;
 use isa::machine::State;
 use isa::number::answer_number;
+use isa::number::character_sent_of;
 use isa::number::interrupt_given;
 use isa::number::reason_number;
 use isa::number::refusal_number;
 use isa::number::run_number;
+use isa::number::sent_number;
 use isa::number::step_number;
 use isa::number::steps_taken;
 use lent::raise_lent;
 use lent::step_lent;
+use operations::device::ReadOutResult;
+use operations::device::read_out;
+use operations::device::tick;
+use operations::device::type_character;
+use operations::input::InputRunResult;
+use operations::input::run_with_input;
 use operations::raise::raise;
 use operations::runs::RunResult;
 use operations::runs::through;
@@ -54,12 +65,14 @@ use words::copy;
 // The number of a call that is no operation.
 const BAD_CALL: u16 = 255;
 
-// A state, to the lent words in image order: 128 registers, then 28 control words.
+// A state, to the lent words: 128 registers, 28 control words and 12 devices' words, each in image order.
 fn put_state(s: State, words: &mut [u16])
     requires { ⌜ length (now words) ≡ stateWords ⌝ }
     ensures { λ _. ⌜ now (words .exit) ≡ stateOrdered s ⌝ }
 {
+    let d = s.devices;
     image_write::put_state(s, words, 0);
+    put_devices(d, words, FIRST_DEVICE);
 }
 
 // A step's number; its interrupt's to `interrupt`, unless it was refused.
@@ -90,7 +103,9 @@ fn tell_step(r: StepEnd, pcrs: &[u16], state: &mut [u16], interrupt: &mut u16) -
         return n;
     }
     let k = r.control;
+    let d = k.devices;
     put_control(r.level, k, pcrs, state, REGISTER_WORDS);
+    put_devices(d, state, FIRST_DEVICE);
     0
 }
 
@@ -109,8 +124,8 @@ pub extern "C" fn nd110_step(
         return BAD_CALL;
     }
     let level = state[REGISTER_WORDS];
-    let k = control_of(&state[REGISTER_WORDS..]);
-    let mut pcrs = pcrs_of(&state[REGISTER_WORDS..]);
+    let k = control_of(&state[REGISTER_WORDS..FIRST_DEVICE], &state[FIRST_DEVICE..]);
+    let mut pcrs = pcrs_of(&state[REGISTER_WORDS..FIRST_DEVICE]);
     let r = step(
         level,
         k,
@@ -275,6 +290,135 @@ pub extern "C" fn nd110_raise_lent(m: &mut State, level: u16, mem: &[u16], table
 {
     let a = raise_lent(m, level, mem, tables);
     answer_number(a)
+}
+
+// The real-time clock's pulse.
+#[no_mangle]
+pub extern "C" fn nd110_tick(state: &mut [u16], mem: &[u16], tables: &[u16]) -> u16
+    ensures { λ r. ⌜ leftOf r (now (state .exit)) (now (mem .entry)) (now (tables .entry)) []
+        ≡ hostTick (now (state .entry)) (now (mem .entry)) (now (tables .entry)) ⌝ }
+{
+    if state.len() != STATE_WORDS {
+        return BAD_CALL;
+    }
+    let r = tick(state_in(state), mem, tables);
+    let a = r.answer;
+    let after = r.state;
+    tell_answer(a, after, state)
+}
+
+// A character typed at the terminal.
+#[no_mangle]
+pub extern "C" fn nd110_type(state: &mut [u16], character: u8, mem: &[u16], tables: &[u16]) -> u16
+    ensures { λ r. ⌜ leftOf r (now (state .exit)) (now (mem .entry)) (now (tables .entry)) []
+        ≡ hostType character (now (state .entry)) (now (mem .entry)) (now (tables .entry)) ⌝ }
+{
+    if state.len() != STATE_WORDS {
+        return BAD_CALL;
+    }
+    let r = type_character(state_in(state), character, mem, tables);
+    let a = r.answer;
+    let after = r.state;
+    tell_answer(a, after, state)
+}
+
+// What a read out answered, and the state that it left, to the lent words.
+fn tell_character(r: ReadOutResult, state: &mut [u16], character: &mut u16) -> u16
+    requires { ⌜ length (now state) ≡ stateWords ⌝ }
+    ensures { λ n. ⌜ ((m t : List ℕ)
+        → leftOf n (now (state .exit)) m t (now (character .exit) ∷ [])
+        ≡ readOutEnd (now (state .entry)) (now (character .entry) ∷ []) m t (readOutOf r)) ⌝ }
+{
+    let a = r.answer;
+    let n = sent_number(a);
+    if n != 0 {
+        return n;
+    }
+    let after = r.state;
+    put_state(after, state);
+    *character = character_sent_of(a);
+    0
+}
+
+// The character sent last, once: `character` gets it, or 256 for none.
+#[no_mangle]
+pub extern "C" fn nd110_read_out(
+    state: &mut [u16],
+    mem: &[u16],
+    tables: &[u16],
+    character: &mut u16,
+) -> u16
+    ensures { λ r. ⌜ leftOf r (now (state .exit)) (now (mem .entry)) (now (tables .entry)) (now (character .exit) ∷ [])
+        ≡ hostReadOut (now (state .entry)) (now (mem .entry)) (now (tables .entry)) (now (character .entry) ∷ []) ⌝ }
+{
+    if state.len() != STATE_WORDS {
+        return BAD_CALL;
+    }
+    let r = read_out(state_in(state), mem, tables);
+    tell_character(r, state, character)
+}
+
+// What a run with device input answered, to the lent words.
+fn tell_input(
+    r: InputRunResult,
+    state: &mut [u16],
+    handed: &mut u64,
+    steps: &mut u64,
+    reason: &mut u16,
+) -> u16
+    requires { ⌜ length (now state) ≡ stateWords ⌝ }
+    ensures { λ n. ⌜ n ≡ runNumber (r .answer) ⌝ }
+    ensures { λ n. ⌜ now (state .exit) ≡ cond (eqb n 0) (stateOrdered (r .state)) (now (state .entry)) ⌝ }
+    ensures { λ n. ⌜ (now (handed .exit) ∷ now (steps .exit) ∷ now (reason .exit) ∷ [])
+        ≡ cond (eqb n 0) (r .handed ∷ stepsTaken (r .answer) ∷ reasonGiven (r .answer) ∷ [])
+        (now (handed .entry) ∷ now (steps .entry) ∷ now (reason .entry) ∷ []) ⌝ }
+{
+    let a = r.answer;
+    let n = run_number(a);
+    if n != 0 {
+        return n;
+    }
+    let after = r.state;
+    put_state(after, state);
+    *handed = r.handed as u64;
+    *steps = steps_taken(a);
+    *reason = reason_given(a);
+    0
+}
+
+// At most n steps, up to the first that gives an interrupt, or before a change of level, with device input: the input
+// what[i] after at[i] steps, and to told[i] what it was told; the three lists have one length. `handed` gets how many
+// were handed in, `steps` the steps taken, `reason` the reason's number.
+#[no_mangle]
+pub extern "C" fn nd110_run_with_input(
+    state: &mut [u16],
+    mem: &mut [u16],
+    tables: &mut [u16],
+    n: u64,
+    at: &[u64],
+    what: &[u16],
+    told: &mut [u16],
+    handed: &mut u64,
+    steps: &mut u64,
+    reason: &mut u16,
+) -> u16
+    ensures { λ r. ⌜ leftOf r (now (state .exit)) (now (mem .exit)) (now (tables .exit))
+        (now (told .exit) ++ (now (handed .exit) ∷ now (steps .exit) ∷ now (reason .exit) ∷ []))
+        ≡ hostInputRun n (now (at .entry)) (now (what .entry)) (now (told .entry)) (now (state .entry))
+        (now (mem .entry)) (now (tables .entry))
+        (now (handed .entry) ∷ now (steps .entry) ∷ now (reason .entry) ∷ []) ⌝ }
+{
+    if state.len() != STATE_WORDS {
+        return BAD_CALL;
+    }
+    if at.len() != what.len() {
+        return BAD_CALL;
+    }
+    if told.len() != what.len() {
+        return BAD_CALL;
+    }
+    let r = run_with_input(state_in(state), mem, tables, n, at, what, told);
+    tell_input(r, state, handed, steps, reason)
 }
 
 // The machine of an image.

@@ -10,6 +10,8 @@ use isa::answer::Answer;
 use isa::answer::Target;
 use isa::machine::State;
 
+pub mod device;
+pub mod input;
 pub mod pair;
 pub mod raise;
 pub mod reload;

@@ -1,18 +1,21 @@
-// Demand 3 of what is shipped: run to the first interrupt from two memories, side by side.
-ghost use Rattle.operations.specs.Calls.{runOf};
+// Demand 3 of what is shipped: run to the first interrupt with device input from two memories, side by side.
+ghost use lib.ListN.{length, take};
+ghost use Rattle.isa.specs.DeviceInput.{givenOf};
+ghost use Rattle.operations.specs.Calls.{inputRunOf};
 ghost use Rattle.operations.specs.Pair.{SideBySide};
-use crate::runs::RunResult;
-use crate::runs::run_by;
+use crate::input::InputRunResult;
+use crate::input::run_with_input;
 use isa::machine::State;
 
 // What the two runs answer.
 pub struct Pair {
-    pub left: RunResult,
-    pub right: RunResult,
+    pub left: InputRunResult,
+    pub right: InputRunResult,
 }
 
-// Two machines of one state, each with its own lent words: memory and page tables, of which the right one has copies.
-// Each is run as the definition has it, at most n steps; where the starts are as demand 3 has them, so are the ends.
+// Two machines of one state, each with its own lent words: memory, page tables, of which the right one has copies, and
+// words for what its inputs are told, `said` and `told`. Each is run as the definition has it, at most n steps, with
+// the same device input; where the starts are as demand 3 has them, so are the ends.
 pub fn run_two(
     s: State,
     left: &mut [u16],
@@ -20,14 +23,20 @@ pub fn run_two(
     right: &mut [u16],
     copies: &mut [u16],
     n: u64,
+    at: &[u64],
+    what: &[u16],
+    said: &mut [u16],
+    told: &mut [u16],
 ) -> Pair
     ensures { λ r. ⌜
-        SideBySide s n (now (left .entry)) (now (tables .entry)) (now (right .entry)) (now (copies .entry))
-        (runOf (r .left) (now (left .exit)) (now (tables .exit)))
-        (runOf (r .right) (now (right .exit)) (now (copies .exit)))
+        SideBySide s n (givenOf (take (length (now (said .entry))) (now (at .entry))) (now (what .entry)))
+        (givenOf (take (length (now (told .entry))) (now (at .entry))) (now (what .entry)))
+        (now (left .entry)) (now (tables .entry)) (now (right .entry)) (now (copies .entry))
+        (inputRunOf (r .left) (now (said .exit)) (now (left .exit)) (now (tables .exit)))
+        (inputRunOf (r .right) (now (told .exit)) (now (right .exit)) (now (copies .exit)))
         ⌝ }
 {
-    let a = run_by(s, left, tables, n, true);
-    let b = run_by(s, right, copies, n, true);
+    let a = run_with_input(s, left, tables, n, at, what, said);
+    let b = run_with_input(s, right, copies, n, at, what, told);
     Pair { left: a, right: b }
 }

@@ -1,18 +1,29 @@
 // A device's interrupt.
 ghost use mathlib.Core.Path.{_≡_};
+ghost use Rattle.isa.specs.Machine.{withControlWords};
 ghost use Rattle.isa.specs.Answers.{raiseCall, levelAnswer, answerNumbers, raiseTold};
-ghost use Rattle.operations.specs.Calls.{raiseOf};
-use checks::device_level;
-use checks::parts_answer;
-use checks::raised;
+ghost use Rattle.operations.specs.Calls.{stateCallOf};
+use checks::state_answer;
+use devices::handed::device_level;
+use devices::handed::raised;
 use isa::answer::Answer;
 use isa::answer::Refusal;
+use isa::machine::Control;
 use isa::machine::State;
 
-// What raise answers, and the state that it leaves.
-pub struct RaiseResult {
+// What raise, tick and a typed character answer, and the state that each leaves.
+pub struct StateResult {
     pub answer: Answer,
     pub state: State,
+}
+
+// The state with other control words and devices.
+pub(crate) fn with_control_words(s: State, k: Control) -> State
+    ensures { λ r. ⌜ r ≡ withControlWords s k ⌝ }
+{
+    let regs = s.regs;
+    let pcrs = s.pcr;
+    State::with(s.level, k, regs, pcrs)
 }
 
 // The state's answer first, then the level's.
@@ -31,21 +42,17 @@ fn level_answer(level: u16, a: Answer) -> Answer
 }
 
 // The level's PID bit is set. Refusals 1, 2 and 3.
-pub fn raise(s: State, level: u16, mem: &[u16], tables: &[u16]) -> RaiseResult
-    ensures { λ r. ⌜ raiseOf r ≡ raiseCall s level (now (mem .entry)) (now (tables .entry)) ⌝ }
+pub fn raise(s: State, level: u16, mem: &[u16], tables: &[u16]) -> StateResult
+    ensures { λ r. ⌜ stateCallOf r ≡ raiseCall s level (now (mem .entry)) (now (tables .entry)) ⌝ }
     ensures { λ r. ⌜ answerNumbers (r .answer) ≡ raiseTold s level (now (mem .entry)) (now (tables .entry)) ⌝ }
 {
-    let k = s.control_words();
-    let a = level_answer(
-        level,
-        parts_answer(s.level, k, &s.regs, &s.pcr, mem, tables),
-    );
+    let a = level_answer(level, state_answer(s, mem, tables));
     match a {
-        Answer::Done => RaiseResult {
+        Answer::Done => StateResult {
             answer: Answer::Done,
-            state: raised(s, level),
+            state: with_control_words(s, raised(s.control_words(), level)),
         },
-        Answer::Refused(x) => RaiseResult {
+        Answer::Refused(x) => StateResult {
             answer: Answer::Refused(x),
             state: s,
         },

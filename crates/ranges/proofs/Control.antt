@@ -13,13 +13,14 @@ use Rattle.isa.specs.Machine.{bit, withBit, reg, withFile, withControl, nextCor
 use Rattle.isa.specs.Flags.{complement}
 use Rattle.isa.specs.System.{highestIn, withSwitches, withLevels, withInternal, withPid, withPie, waited}
 use Rattle.isa.specs.System.{internalWord, afterReading, read, withSts, written, bitsCleared, bitsSet, switched}
-use Rattle.isa.specs.System.{withPagingStatus, withExtended, controlled}
+use Rattle.isa.specs.System.{withPagingStatus, withExtended, withDevices, controlled}
 use Rattle.isa.specs.Pages.{loweredPcr, lowered}
 use Rattle.isa.specs.Step.{detected, interrupted, gives}
 use Rattle.isa.specs.declared.machine.Control.{Control}
 use Rattle.isa.specs.declared.machine.Core.{Core}
 use Rattle.isa.specs.declared.machine.File.{File}
 use Rattle.isa.specs.declared.machine.Register.the-variants.{Sts, A}
+use Rattle.isa.specs.declared.device.Devices.{Devices}
 use Rattle.isa.specs.declared.instruction.Readable.{Readable}
 use Rattle.isa.specs.declared.instruction.Readable.the-variants.{Status, Pgs, Pvl, Iic, Pid, Pie, Actl}
 use Rattle.isa.specs.declared.instruction.Writable.{Writable}
@@ -32,6 +33,7 @@ use Rattle.isa.specs.declared.instruction.ControlOp.the-variants.{Ion, Iof, Pon
 use Rattle.isa.specs.declared.instruction.ControlOp.the-variants.{Trr, Mcl, Mst}
 use Rattle.isa.proofs.Tests.{either, decided}
 use Rattle.isa.proofs.Bits.{bit-below, bit-even}
+use Rattle.ranges.proofs.Devices.{DevicesFit}
 use Rattle.ranges.proofs.Files.{FileFits, reg-word, sts-flags, with-word, with-sts, next-fits}
 
 -- ---- the control words, one by one
@@ -51,7 +53,7 @@ pub record PgsFits (w : ℕ) : Type 0 where
   pub clear : w / 256 % 64 ≡ 0
   pub word : w < 65536
 
--- the control words 1 to 9, 26 and 27
+-- the control words 1 to 9, 26 and 27, and the devices' words
 pub record ControlFits (k : Control) : Type 0 where
   pub interrupts : k .interrupts < 2
   pub paging : k .paging < 2
@@ -64,6 +66,7 @@ pub record ControlFits (k : Control) : Type 0 where
   pub pgs : PgsFits (k .pgs)
   pub held : k .held < 2
   pub extended : k .extended < 2
+  pub devices : DevicesFit (k .devices)
 
 -- what an instruction of the running level works on
 pub record CoreFits (c : Core) : Type 0 where
@@ -87,6 +90,7 @@ switches-fit q i p h a b c = record {
   pgs = q .pgs;
   held = q .held;
   extended = q .extended;
+  devices = q .devices;
 }
 
 -- PID, PIE and PVL
@@ -104,6 +108,7 @@ levels-fit q d e v a b c = record {
   pgs = q .pgs;
   held = q .held;
   extended = q .extended;
+  devices = q .devices;
 }
 
 -- IID and IIE
@@ -121,6 +126,7 @@ internal-fit q a b = record {
   pgs = q .pgs;
   held = q .held;
   extended = q .extended;
+  devices = q .devices;
 }
 
 -- PGS, and whether it is held
@@ -137,6 +143,7 @@ status-fit q a b = record {
   pgs = a;
   held = b;
   extended = q .extended;
+  devices = q .devices;
 }
 
 -- the extended flag
@@ -153,10 +160,29 @@ extended-fit q a = record {
   pgs = q .pgs;
   held = q .held;
   extended = a;
+  devices = q .devices;
+}
+
+-- PID and the devices' words
+pub devices-fit : {k : Control} → ControlFits k → {p : ℕ} {d : Devices} → p < 65536 → DevicesFit d
+    → ControlFits (withDevices k p d)
+devices-fit q a b = record {
+  interrupts = q .interrupts;
+  paging = q .paging;
+  stopped = q .stopped;
+  pid = a;
+  pie = q .pie;
+  pvl = q .pvl;
+  iid = q .iid;
+  iie = q .iie;
+  pgs = q .pgs;
+  held = q .held;
+  extended = q .extended;
+  devices = b;
 }
 
 -- PID alone, PIE alone
-pid-fits : {k : Control} → ControlFits k → {d : ℕ} → d < 65536 → ControlFits (withPid k d)
+pub pid-fits : {k : Control} → ControlFits k → {d : ℕ} → d < 65536 → ControlFits (withPid k d)
 pid-fits {k} q {d} a = levels-fit q d (k .pie) (k .pvl) a (q .pie) (q .pvl)
 
 pie-fits : {k : Control} → ControlFits k → {e : ℕ} → e < 65536 → ControlFits (withPie k e)

@@ -8,6 +8,7 @@ use native.Mathlib.Omega.{arith}
 use lib.ListN.{length, replicate}
 use lib.Dec.{eqb}
 use Rattle.isa.specs.Machine.{registerWords, controlCount, tableWords, Words, stateOf, inRange}
+use Rattle.isa.specs.Devices.{deviceCount}
 use Rattle.isa.specs.Step.{Turn, step, isStopped, changeDue}
 use Rattle.isa.specs.Run.{Run, runFrom}
 use Rattle.isa.specs.declared.machine.State.{State}
@@ -27,7 +28,8 @@ zeros-words (suc n) = cons-words 0 (replicate n 0) (omega arith) (zeros-words n)
 
 -- a cleared machine with memory of any size is sound, so the laws below speak of some machines
 pub cleared-sound : (n : ℕ)
-    → Sound (stateOf (replicate registerWords 0) (replicate controlCount 0)) (replicate n 0) (replicate tableWords 0)
+    → Sound (stateOf (replicate registerWords 0) (replicate controlCount 0) (replicate deviceCount 0)) (replicate n 0)
+    (replicate tableWords 0)
 unfolding inRange
 cleared-sound n = record {
   typed = record {
@@ -35,6 +37,7 @@ cleared-sound n = record {
     pcr-length = refl;
     regs-words = zeros-words registerWords;
     control-words = zeros-words controlCount;
+    device-words = zeros-words deviceCount;
   };
   range = refl;
   memory = zeros-words n;
@@ -67,11 +70,11 @@ step-size s m t = step-sized (length m) (length t) s m t (record { memory = refl
 module _ (K : State → List ℕ → List ℕ → Type 0)
     (one : (s : State) (m t : List ℕ) → K s m t → K (step s m t .state) (step s m t .memory) (step s m t .tables)) where
   -- .. where it ends
-  abbrev RunKeeps : Run → Type 0
+  abbrev pub RunKeeps : Run → Type 0
   RunKeeps r = K (r .state) (r .memory) (r .tables)
 
   -- .. after any number of steps
-  run-keeps : (first : Bool) (n k : ℕ) (s : State) (m t : List ℕ) → K s m t → RunKeeps (runFrom first n k s m t)
+  pub run-keeps : (first : Bool) (n k : ℕ) (s : State) (m t : List ℕ) → K s m t → RunKeeps (runFrom first n k s m t)
   run-keeps first zero k s m t h = either RunKeeps (isStopped s) h (either RunKeeps (first && changeDue s) h h)
   run-keeps first (suc n) k s m t h =
       let r : Turn = step s m t in

@@ -14,6 +14,8 @@ use Rattle.isa.specs.Physical.{transferAddress, transferStores, firstPlace, sec
 use Rattle.isa.specs.Step.{Part, Turn, finished, operandsTested, operands, indirectTested, userStage, physicalAddress}
 use Rattle.isa.specs.Step.{examined, deposited, transferStage, systemStage, privileged, instructionStage}
 use Rattle.isa.specs.Step.{instructionOf, afterFetch, fetched, fetchOf, stepIn, blockOrder, blockRequest, blockWords}
+use Rattle.isa.specs.Step.{deviceStage, identStage}
+use Rattle.isa.specs.InputOutput.{registerOf, answers, lineOf, flipFlop}
 use Rattle.isa.specs.Step.{blockStored, blockLoaded, blockTested, farStage, settled, isStopped, changeDue, step}
 use Rattle.isa.specs.declared.machine.Core.{Core}
 use Rattle.isa.specs.declared.machine.State.{State}
@@ -132,7 +134,7 @@ module _ (j k : ℕ) where
 
   -- a privileged instruction
   system-size : (l : ℕ) (c : Core) (m t : List ℕ) (o : System) → Sized j k m t → PartSized (systemStage l c m t o)
-  unfolding examined deposited
+  unfolding examined deposited deviceStage identStage
   system-size l c m t (ControlOf o) h = h
   system-size l c m t TraPgc h = h
   system-size l c m t TrrPcr h = h
@@ -148,9 +150,9 @@ module _ (j k : ℕ) where
         tables = h .tables;
       }) h
   system-size l c m t (Physical o d) h = transfer-size c m t o d h
-  system-size l c m t (Iox n) h = h
-  system-size l c m t Ioxt h = h
-  system-size l c m t (Ident n) h = h
+  system-size l c m t (Iox n) h = either PartSized (answers (registerOf n)) h h
+  system-size l c m t Ioxt h = either PartSized (answers (registerOf (reg (c .file) T))) h h
+  system-size l c m t (Ident n) h = either PartSized (eqb (flipFlop (c .control .devices) (lineOf n)) 1) h h
 
   -- an instruction
   instruction-size : (l : ℕ) (c : Core) (m t : List ℕ) (i : Instruction) → Sized j k m t

@@ -11,12 +11,15 @@ use lib.ListN.{getD, length, List·getD-eq-default}
 use lib.Dec.{ltb, eqb}
 use borrow.Author.Tests.{ltb-true, eqb-true, lt-ltb, eq-eqb}
 use Rattle.isa.specs.Machine.{Words, Typed, inRange, controlInRange, interruptBits, pcrBits, allPcrBits, flagsFit}
-use Rattle.isa.specs.Machine.{addedWords, controlWords}
+use Rattle.isa.specs.Machine.{addedWords, controlWords, withControlWords}
+use Rattle.isa.specs.Devices.{deviceWords}
+use Rattle.isa.specs.declared.device.Devices.{Devices}
 use Rattle.isa.specs.declared.machine.Control.{Control}
 use Rattle.isa.specs.declared.machine.State.{State}
 use Rattle.isa.proofs.Tests.{and-left, and-right, and-both}
 use Rattle.ranges.proofs.Places.{Each, nil-words, cons-words, append-words}
 use Rattle.ranges.proofs.Files.{Fits}
+use Rattle.ranges.proofs.Devices.{DevicesFit, devices-range, devices-test}
 use Rattle.ranges.proofs.Control.{InterruptFits, PcrFits, ControlFits}
 
 -- the parts of a state
@@ -27,6 +30,17 @@ pub record StateFits (s : State) : Type 0 where
   pub control : ControlFits (controlOf s)
   pub pcr-length : length (s .pcr) ≡ levelCount
   pub pcr : Each (λ i. PcrFits) (s .pcr)
+
+-- the state with other control words and devices
+pub words-fit : {s : State} {k : Control} → StateFits s → ControlFits k → StateFits (withControlWords s k)
+words-fit h q = record {
+  level = h .level;
+  regs-length = h .regs-length;
+  regs = h .regs;
+  control = q;
+  pcr-length = h .pcr-length;
+  pcr = h .pcr;
+}
 
 -- ---- from the tests
 
@@ -74,17 +88,18 @@ regs-each b n w h i = record { word = w i; flags = λ e. go e (decLt i 128) }
 control-range : (k : Control) → controlInRange k ≡ true → k .pid < 65536 → k .pie < 65536 → k .pgs < 65536
     → ControlFits k
 control-range k h d e g = record {
-  interrupts = ltb-true (k .interrupts) 2 (search (and-left, and-right) depth 7);
-  paging = ltb-true (k .paging) 2 (search (and-left, and-right) depth 7);
-  stopped = ltb-true (k .stopped) 2 (search (and-left, and-right) depth 7);
+  interrupts = ltb-true (k .interrupts) 2 (search (and-left, and-right) depth 8);
+  paging = ltb-true (k .paging) 2 (search (and-left, and-right) depth 8);
+  stopped = ltb-true (k .stopped) 2 (search (and-left, and-right) depth 8);
   pid = d;
   pie = e;
-  pvl = ltb-true (k .pvl) 16 (search (and-left, and-right) depth 7);
-  iid = interrupt-bits (k .iid) (search (and-left, and-right) depth 7);
-  iie = interrupt-bits (k .iie) (search (and-left, and-right) depth 7);
-  pgs = record { clear = eqb-true (k .pgs / 256 % 64) 0 (search (and-left, and-right) depth 7); word = g };
-  held = ltb-true (k .held) 2 (search (and-left, and-right) depth 7);
-  extended = ltb-true (k .extended) 2 (search (and-left, and-right) depth 7);
+  pvl = ltb-true (k .pvl) 16 (search (and-left, and-right) depth 8);
+  iid = interrupt-bits (k .iid) (search (and-left, and-right) depth 8);
+  iie = interrupt-bits (k .iie) (search (and-left, and-right) depth 8);
+  pgs = record { clear = eqb-true (k .pgs / 256 % 64) 0 (search (and-left, and-right) depth 8); word = g };
+  held = ltb-true (k .held) 2 (search (and-left, and-right) depth 8);
+  extended = ltb-true (k .extended) 2 (search (and-left, and-right) depth 8);
+  devices = devices-range (k .devices) (search (and-left, and-right) depth 8);
 }
 
 -- four tests that all pass; the last is long to compute
@@ -138,13 +153,15 @@ control-test k h =
     (and-both
     (and-both
     (and-both
+    (and-both
     (and-both (and-both (lt-ltb (k .interrupts) 2 (h .interrupts)) (lt-ltb (k .paging) 2 (h .paging)))
     (lt-ltb (k .stopped) 2 (h .stopped)))
     (lt-ltb (k .pvl) 16 (h .pvl)))
     (interrupt-test (k .iid) (h .iid)))
     (interrupt-test (k .iie) (h .iie)))
     (and-both (eq-eqb (k .pgs / 256 % 64) 0 (h .pgs .clear)) (lt-ltb (k .held) 2 (h .held))))
-    (lt-ltb (k .extended) 2 (h .extended))
+    (lt-ltb (k .extended) 2 (h .extended)))
+    (devices-test (k .devices) (h .devices))
 
 -- four tests together
 all-four : (a b c d : Bool) → a ≡ true → b ≡ true → c ≡ true → d ≡ true → (a && b && c && d) ≡ true
@@ -195,6 +212,25 @@ control-row s h =
     (first (k .iie .low) (omega arith)
     (first (k .pgs .word) (omega arith) (last-row (s .pcr) (h .pcr) k))))))))))
 
+-- the devices' words
+device-row : {d : Devices} → DevicesFit d → Row (deviceWords d)
+device-row h =
+    let c = h .clock in
+    let i = h .input in
+    let o = h .output in
+    first (c .enabled) (omega arith)
+    (first (c .ready) (omega arith)
+    (first (c .asks) (omega arith)
+    (first (i .enabled) (omega arith)
+    (first (i .unread) (omega arith)
+    (first (i .asks) (omega arith)
+    (first (i .character) (omega arith)
+    (first (i .length) (omega arith)
+    (first (o .enabled) (omega arith)
+    (first (o .waits) (omega arith)
+    (first (o .asks) (omega arith)
+    (first (o .character) (omega arith) (record { at = nil-words }))))))))))))
+
 -- the state has its types
 pub state-typed : (s : State) → StateFits s → Typed s
 state-typed s h = record {
@@ -202,4 +238,5 @@ state-typed s h = record {
   pcr-length = h .pcr-length;
   regs-words = λ i. h .regs i .word;
   control-words = control-row s h .at;
+  device-words = device-row (h .control .devices) .at;
 }

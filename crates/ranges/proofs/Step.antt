@@ -16,7 +16,10 @@ use Rattle.isa.specs.Physical.{secondPlace, firstFault}
 use Rattle.isa.specs.Step.{Part, part, failed, trapped, finishedCore, finished, operandsTested, operands}
 use Rattle.isa.specs.Step.{indirectTested, userStage, physicalAddress, examined, deposited, transferStage, systemStage}
 use Rattle.isa.specs.Step.{privileged, instructionStage, instructionOf, afterFetch, fetched, fetchOf, stepIn, settled}
-use Rattle.isa.specs.Step.{isStopped, changeDue, levelChanged, step}
+use Rattle.isa.specs.Step.{isStopped, changeDue, levelChanged, step, deviceStage, identStage}
+use Rattle.isa.specs.InputOutput.{registerOf, answers, lineOf, flipFlop}
+use Rattle.isa.specs.declared.device.DeviceRegister.{DeviceRegister}
+use Rattle.isa.specs.declared.device.Line.{Line}
 use Rattle.isa.specs.declared.machine.Core.{Core}
 use Rattle.isa.specs.declared.machine.File.{File}
 use Rattle.isa.specs.declared.machine.State.{State}
@@ -41,6 +44,7 @@ use Rattle.ranges.proofs.Files.{FileFits, reg-word, with-word}
 use Rattle.ranges.proofs.Instructions.{Completes, completes}
 use Rattle.ranges.proofs.Control.{CoreFits, file-fits, next-core-fits, gives-fits, lowered-fits, levels-fit}
 use Rattle.ranges.proofs.Control.{highest-below, controlled-fits}
+use Rattle.ranges.proofs.InputOutput.{exchanged-fits, identified-fits}
 use Rattle.ranges.proofs.Pages.{FaultFits, LentFits, rights-fit, translated-fits, physical-fits, faulted-fits}
 use Rattle.ranges.proofs.Pages.{marked-fits, tested-fits, tested-fault, stored-fits, word-at-word, read-words}
 use Rattle.ranges.proofs.Places.{set-words, nil-words, cons-words}
@@ -184,6 +188,22 @@ transfer-fits {c} h m t o d k =
     })
     (λ e. failed-fits h (firstFault x y) m t e (either FaultFits (passes x) second first) k)
 
+-- IOX and IOXT
+device-fits : {c : Core} → CoreFits c → (m t : List ℕ) (r : DeviceRegister) → LentFits m t
+    → PartFits (deviceStage c m t r)
+unfolding deviceStage
+device-fits h m t r k =
+    either PartFits (answers r) (record { core = exchanged-fits h r; far = tt; lent = k })
+    (trapped-fits 7 (omega arith) (omega arith) h m t k)
+
+-- IDENT
+ident-fits : {c : Core} → CoreFits c → (m t : List ℕ) (i : Line) → LentFits m t → PartFits (identStage c m t i)
+unfolding identStage
+ident-fits {c} h m t i k =
+    either PartFits (eqb (flipFlop (c .control .devices) i) 1)
+    (record { core = identified-fits h i; far = tt; lent = k })
+    (trapped-fits 7 (omega arith) (omega arith) h m t k)
+
 -- what is done outside the level
 left-fits : {c : Core} → CoreFits c → (x : Far) (m t : List ℕ) → FarFits x → LentFits m t → PartFits (part c 0 x m t)
 left-fits h x m t f k = record { core = h; far = f; lent = k }
@@ -201,9 +221,9 @@ system-fits l a h m t (Lrb n) k = left-fits h (LoadBlock n) m t tt k
 system-fits l a h m t Exam k = examined-fits h m t k
 system-fits l a h m t Depo k = deposited-fits h m t k
 system-fits l a h m t (Physical o d) k = transfer-fits h m t o d k
-system-fits l a h m t (Iox n) k = trapped-fits 7 (omega arith) (omega arith) h m t k
-system-fits l a h m t Ioxt k = trapped-fits 7 (omega arith) (omega arith) h m t k
-system-fits l a h m t (Ident n) k = trapped-fits 7 (omega arith) (omega arith) h m t k
+system-fits l a h m t (Iox n) k = device-fits h m t (registerOf n) k
+system-fits l {c} a h m t Ioxt k = device-fits h m t (registerOf (reg (c .file) T)) k
+system-fits l a h m t (Ident n) k = ident-fits h m t (lineOf n) k
 
 -- ---- fetch and execute
 

@@ -1,2 +1,2 @@
--- What a step and a run keep.
+-- What a step, a run, and what is handed in between steps keep.
 pub mod Sound

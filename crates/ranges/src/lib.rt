@@ -1,2 +1,2 @@
-// A step and a run keep every state in range: the statement is in specs/Sound.antt, the laws are in proofs/. No
-// function.
+// A step, a run, and what is handed in between steps keep every state in range: the statement is in specs/Sound.antt,
+// the laws are in proofs/. No function.

@@ -1,17 +1,18 @@
--- Write, then load: the same machine. And the order of load's refusals.
+-- Write, then load: the same machine. The order of load's refusals. And devices that an image does not name.
 -- Assumes nothing.
-use Rattle.isa.specs.Machine.{controlCount, tableWords}
+use Rattle.isa.specs.Machine.{tableWords}
 use Prim.Native.Nat.{ℕ, _+_, _≤_}
 use mathlib.Core.Path.{_≡_, refl, sym, ap, _∙_}
 use mathlib.Core.Bool.{true}
-use mathlib.Core.List.{List, [], _++_}
+use mathlib.Core.List.{List, [], _∷_, _++_}
 use native.Mathlib.Omega.{arith}
-use lib.ListN.{take, drop, length, length-append}
+use lib.ListN.{take, drop, length, replicate, length-append}
 use lib.Seq.{take-at}
 use lib.Dec.{eqb}
-use borrow.Author.Tests.{le-ltb, lt-ltb, le-leb, eq-eqb, eqb-true}
-use Rattle.isa.specs.Machine.{stateOf, sizesFit, memorySize, inRange}
-use Rattle.isa.specs.Images.{besideMemory, contentsSize}
+use borrow.Author.Tests.{le-ltb, lt-ltb, le-leb, eq-eqb, ne-eqb, eqb-true}
+use Rattle.isa.specs.Machine.{sizesFit, memorySize, inRange}
+use Rattle.isa.specs.Devices.{deviceCount, devicesOf}
+use Rattle.isa.specs.Images.{besideMemory, contentsSize, ImageEntry, kindDevices, placed}
 use Rattle.isa.specs.Images.{contentsFit, contents, bodies, entriesAnswer, meets, namedWords, loadedState}
 use Rattle.isa.specs.Images.{loadedWords, contentsWords, imageOf, imageSize}
 use Rattle.isa.specs.Answers.{LoadCall, loadCall, loadCallBy, loadAnswer, stateAnswer, writeAnswer, writtenOutput}
@@ -20,10 +21,11 @@ use Rattle.isa.specs.declared.answer.Answer.{Answer}
 use Rattle.isa.specs.declared.answer.Answer.the-variants.{Done, Refused}
 use Rattle.isa.proofs.Tests.{and-both, and-right}
 use Rattle.isa.proofs.ControlWords.{state-of-words}
-use Rattle.roundtrip.specs.Statement.{Machine, Loads, RoundTrip, LoadOrder, Either, machine, refusal}
-use Rattle.roundtrip.proofs.Contents.{bodyWords, four, afterMemory, entry-count, contents-four, bodies-all}
+use Rattle.roundtrip.specs.Statement.{Machine, Loads, RoundTrip, LoadOrder, Either, machine, refusal, Without}
+use Rattle.roundtrip.specs.Statement.{LoadsClearedDevices}
+use Rattle.roundtrip.proofs.Contents.{bodyWords, five, afterMemory, entry-count, contents-five, bodies-all}
 use Rattle.roundtrip.proofs.Contents.{bodies-length, loaded-memory, loaded-registers, loaded-control}
-use Rattle.roundtrip.proofs.Contents.{loaded-tables}
+use Rattle.roundtrip.proofs.Contents.{loaded-tables, loaded-devices}
 
 -- ---- the order of load's refusals
 
@@ -46,12 +48,26 @@ load-either s i m t = go (loadAnswer i m t)
     go Done = machine refl
     go (Refused x) = refusal x refl
 
--- ---- the four entries
+-- ---- an image without devices
 
--- four full entries of different kinds are refused by none of the tests
-four-pass : (words : ℕ) → entriesAnswer words [] (four words) ≡ Done
+-- entries of other kinds leave a target as it is
+placed-without : (k : ℕ) (es : List ImageEntry) (body target : List ℕ) → Without k es
+    → placed k es body target ≡ target
+placed-without k [] body target h = refl
+placed-without k (e ∷ es) body target h =
+    rw (ne-eqb (e .kind) k (h .0)) (placed-without k es (drop (e .count) body) target (h .1))
+
+pub loads-cleared-devices : LoadsClearedDevices
+unfolding loadedWords
+loads-cleared-devices i h =
+    ap devicesOf (placed-without kindDevices (contents i) (bodies i) (replicate deviceCount 0) h)
+
+-- ---- the five entries
+
+-- five full entries of different kinds are refused by none of the tests
+five-pass : (words : ℕ) → entriesAnswer words [] (five words) ≡ Done
 unfolding meets
-four-pass words = rw (le-ltb words (0 + words) q)
+five-pass words = rw (le-ltb words (0 + words) q)
   where
     q : 0 + words ≤ words
     q = omega arith
@@ -78,21 +94,22 @@ module _ (s : State) (m t : List ℕ) (h : Machine s m t) where
 
   loaded-state : loadedState (imageOf s m t) ≡ s
   loaded-state =
-      ap (λ (rs : List ℕ). stateOf rs (loadedWords 3 controlCount (imageOf s m t)))
-      (loaded-registers s m t (h .typed .regs-length) (h .typed .pcr-length) tables-length)
-      ∙ ap (λ (cs : List ℕ). stateOf (s .regs) cs)
-      (loaded-control s m t (h .typed .regs-length) (h .typed .pcr-length) tables-length)
-      ∙ state-of-words s (h .typed .pcr-length)
+      rw (
+        loaded-registers s m t (h .typed .regs-length) (h .typed .pcr-length) tables-length,
+        loaded-control s m t (h .typed .regs-length) (h .typed .pcr-length) tables-length,
+        loaded-devices s m t (h .typed .regs-length) (h .typed .pcr-length) tables-length,
+      )
+      (state-of-words s (h .typed .pcr-length))
 
   named-all : eqb (namedWords (contents (imageOf s m t))) (length (bodies (imageOf s m t))) ≡ true
   named-all =
       eq-eqb _ _
-      (ap namedWords (contents-four s m t)
+      (ap namedWords (contents-five s m t)
       ∙ q
       ∙ sym (ap length (bodies-all s m t)
       ∙ bodies-length s m t (h .typed .regs-length) (h .typed .pcr-length) tables-length))
     where
-      q : namedWords (four (length m)) ≡ length m + bodyWords
+      q : namedWords (five (length m)) ≡ length m + bodyWords
       q = omega arith
 
   -- as much memory as the image has
@@ -105,7 +122,7 @@ module _ (s : State) (m t : List ℕ) (h : Machine s m t) where
     image-accepted =
         load-order (imageOf s m t) m₀ t₀ .loaded sizes-same image-fits
         (ap (λ (n : ℕ). entriesAnswer n [] (contents (imageOf s m t))) hm
-        ∙ ap (entriesAnswer (length m) []) (contents-four s m t) ∙ four-pass (length m))
+        ∙ ap (entriesAnswer (length m) []) (contents-five s m t) ∙ five-pass (length m))
         named-all
         (ap inRange loaded-state ∙ h .range)
 

@@ -1,13 +1,14 @@
--- Demand 2: "Writing an image and loading it into as much memory gives the same machine." And what load answers, in
--- which order.
+-- Demand 2: "Writing an image and loading it into as much memory gives the same machine." What load answers, in which
+-- order. And what it loads of the devices where the image does not name them.
 use Prim.Native.Nat.{ℕ, _≤_}
 use mathlib.Core.Path.{_≡_}
 use mathlib.Core.Bool.{true, false}
-use mathlib.Core.List.{List, []}
+use mathlib.Core.List.{List, [], _∷_}
 use lib.ListN.{take, length}
 use Rattle.isa.specs.Machine.{tableWords, Typed, inRange, sizesFit}
 use Rattle.isa.specs.Images.{imageOf, imageSize, contents, bodies, contentsFit, entriesAnswer, namedWords}
-use Rattle.isa.specs.Images.{loadedState, loadedWords}
+use Rattle.isa.specs.Images.{ImageEntry, kindDevices, loadedState, loadedWords}
+use Rattle.isa.specs.Devices.{clearedDevices}
 use Rattle.isa.specs.Answers.{LoadCall, loadCall, loadAnswer, writtenOutput}
 use Rattle.isa.specs.declared.machine.State.{State}
 use Rattle.isa.specs.declared.answer.Refusal.{Refusal}
@@ -57,3 +58,12 @@ pub data Either (s : State) (i m t : List ℕ) (r : LoadCall) : Type 0 where
     tables = loadedWords 4 tableWords i;
   } → Either s i m t r
   refusal : (x : Refusal) → r ≡ record { answer = Refused x; state = s; memory = m; tables = t } → Either s i m t r
+
+-- none of the entries has the kind k
+abbrev pub Without : ℕ → List ImageEntry → Type 0
+Without k [] = Unit
+Without k (e ∷ es) = (e .kind ≡ k → ⊥) × Without k es
+
+-- document 02, card 1: "Images gain kind 5 ..; an image without it loads cleared devices"
+abbrev pub LoadsClearedDevices : Type 0
+LoadsClearedDevices = (i : List ℕ) → Without kindDevices (contents i) → loadedState i .devices ≡ clearedDevices

@@ -16,8 +16,8 @@ use levels::put_back;
 mod machine;
 pub mod step;
 
-// What a run leaves beside lent words: the running level and the control words 1 to 9, 26 and 27, the steps taken, the
-// interrupt that the last of them gave, or 0 (promised of a run of one step), and why the run ended.
+// What a run leaves beside lent words: the running level and the control words 1 to 9, 26 and 27 with the devices, the
+// steps taken, the interrupt that the last of them gave, or 0 (promised of a run of one step), and why the run ended.
 pub struct RunEnd {
     pub level: u16,
     pub control: Control,
@@ -42,6 +42,7 @@ pub fn run(
     requires { ⌜ level < levelCount ⌝ }
     requires { ⌜ (length (now regs) ≡ registerWords) × (length (now pcrs) ≡ levelCount) ⌝ }
     requires { ⌜ length (now tables) ≡ tableWords ⌝ }
+    ensures { λ r. ⌜ r .level < levelCount ⌝ }
     ensures { λ r. ⌜ ended (r .reason) (r .steps)
         (stateWith (r .level) (r .control) (now (regs .exit)) (now (pcrs .exit))) (now (mem .exit)) (now (tables .exit))
         ≡ runFrom first n 0 (stateWith level k (now (regs .entry)) (now (pcrs .entry))) (now (mem .entry))

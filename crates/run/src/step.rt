@@ -10,7 +10,7 @@ use isa::answer::Answer;
 use isa::answer::StepAnswer;
 use isa::machine::Control;
 
-// What a step answers, and the level and the control words 1 to 9, 26 and 27 that it leaves.
+// What a step answers, and the level and the control words 1 to 9, 26 and 27 with the devices that it leaves.
 pub struct StepEnd {
     pub answer: StepAnswer,
     pub level: u16,

@@ -1,4 +1,4 @@
--- Interrupts of accesses, places by physical addresses, and the instructions by T and X.
+-- Interrupts of accesses, places by physical addresses, the instructions by T and X, and what devices answer.
 -- Assumes nothing.
 use Prim.Native.Nat.{ℕ, _<_}
 use native.Mathlib.Omega.{arith}
@@ -6,10 +6,10 @@ use mathlib.Core.Path.{_≡_, refl, sym, ap, subst, _∙_}
 use mathlib.Core.Bool.{Bool, true, false, cond}
 use mathlib.Core.List.{List, [], _∷_}
 use lib.Dec.{ltb, eqb}
-use Rattle.isa.specs.Machine.{withFile}
+use Rattle.isa.specs.Machine.{interruptIox, reg, withFile}
 use Rattle.isa.specs.Pages.{inMemory, withinMemory, faultOf, passes, wordAt, wordsOf, Lent, lent, storeAll}
 use Rattle.isa.specs.Physical.{firstFault, transferStores, transferred}
-use Rattle.isa.specs.Step.{Part, part, failed, transferStage}
+use Rattle.isa.specs.Step.{Part, part, failed, trapped, transferStage}
 use Rattle.isa.specs.declared.access.AccessKind.{AccessKind}
 use Rattle.isa.specs.declared.access.AccessKind.the-variants.{Fetch, Read, Write, Indirect}
 use Rattle.isa.specs.declared.access.Translation.{Translation}
@@ -19,11 +19,16 @@ use Rattle.isa.specs.declared.answer.Far.the-variants.{Nothing}
 use Rattle.isa.specs.declared.instruction.Transfer.{Transfer}
 use Rattle.isa.specs.declared.machine.Core.{Core}
 use Rattle.isa.specs.declared.machine.File.{File}
+use Rattle.isa.specs.declared.machine.Register.the-variants.{A}
 use Rattle.isa.proofs.Tests.{no-both}
 use Rattle.paging.specs.Within.{Within}
 use Rattle.paging.proofs.Laws.{physical-within}
 use Rattle.exec_physical.specs.Transfers.{Transferred, placeOf, nextPlaceOf}
 use Rattle.exec_physical.specs.declared.Transferred.{Transferred as Moved}
+use Rattle.devices.specs.Events.{Acts, afterEvent, eventAnswered, eventCore}
+use Rattle.devices.specs.declared.Acted.{Acted}
+use Rattle.devices.specs.declared.event.DeviceEvent.{DeviceEvent}
+use Rattle.trap.specs.Parts.{eventStage}
 
 pub fault-small : (x : Translation) → faultOf x < 16
 fault-small NoAccess = omega arith
@@ -100,3 +105,27 @@ module _ (c : Core) (m t : List ℕ) (o : Transfer) (d : ℕ) {r : Moved} {m' t'
       let done : Part = part (withFile c registers) 0 Nothing (stores .memory) (stores .tables) in
       (λ i. failed c (h .fault i) (left i .memory) (left i .tables))
       ∙ ap (λ (b : Bool). cond b done (failed c (firstFault first second) m t)) (sym one)
+
+-- ---- what the devices answered, of a core c whose word in A is a
+
+module _ (c : Core) (e : DeviceEvent) {a : ℕ} (x : Acted) (same : a ≡ reg (c .file) A)
+    (h : Acts a (c .control .pid) (c .control .devices) e x) where
+  acts : Acts (reg (c .file) A) (c .control .pid) (c .control .devices) e x
+  acts = subst (λ (w : ℕ). Acts w (c .control .pid) (c .control .devices) e x) same h
+
+  told : x .answered ≡ eventAnswered c e
+  told = acts .answered (c .file) (c .pcr) (c .control)
+
+  core-after : afterEvent c x ≡ cond (eventAnswered c e) (eventCore c e) c
+  core-after = acts .core (c .file) (c .pcr) (c .control)
+
+  pub event-answered : x .answered ≡ true → (m t : List ℕ)
+      → part (afterEvent c x) 0 Nothing m t ≡ eventStage c m t e
+  event-answered y m t =
+      ap (λ (d : Core). part d 0 Nothing m t)
+      (core-after ∙ ap (λ (b : Bool). cond b (eventCore c e) c) (sym told ∙ y))
+      ∙ ap (λ (b : Bool). cond b (part (eventCore c e) 0 Nothing m t) (trapped interruptIox c m t)) (sym y ∙ told)
+
+  pub event-unanswered : x .answered ≡ false → (m t : List ℕ) → trapped interruptIox c m t ≡ eventStage c m t e
+  event-unanswered y m t =
+      ap (λ (b : Bool). cond b (part (eventCore c e) 0 Nothing m t) (trapped interruptIox c m t)) (sym y ∙ told)

@@ -6,10 +6,14 @@ ghost use Prim.Native.Nat.{ℕ, _<_};
 ghost use lib.ListN.{length};
 ghost use Rattle.isa.specs.Step.{faulted, failed, trapped, part, examined, deposited, systemStage};
 ghost use Rattle.isa.specs.Step.{physicalAddress, transferStage};
+ghost use Rattle.isa.specs.Machine.{reg};
+ghost use Rattle.isa.specs.declared.machine.Register.the-variants.{T};
 ghost use Rattle.event.specs.Events.{eventPart};
-ghost use Rattle.trap.specs.Parts.{nearPart};
+ghost use Rattle.trap.specs.Parts.{nearPart, eventStage};
 use control::instruction::controlled;
 use control::interrupt::gives;
+use devices::event::DeviceEvent;
+use devices::event::act;
 use event::Event;
 use exec_physical::transfer;
 use isa::access::AccessKind;
@@ -123,6 +127,35 @@ fn transferred(c: Core, mem: &mut [u16], tables: &mut [u16], o: Transfer, d: u16
     failed(c, x)
 }
 
+// IOX, IOXT and IDENT: what a device answers, or interrupt 7.
+fn device_stage(c: Core, e: DeviceEvent) -> Near
+    ensures { λ n. ⌜ ((m t : List ℕ) → nearPart n m t ≡ eventStage c m t e) ⌝ }
+{
+    let f = c.file;
+    let mut k = c.control;
+    let d = k.devices;
+    let x = act(d, k.pid, f.get(Register::A), e);
+    if x.answered {
+        let y = x.devices;
+        k.pid = x.pid;
+        k.devices = y;
+        return left(
+            c.with_file(f.with(Register::A, x.a)).with_control(k),
+            0,
+            Far::Nothing,
+        );
+    }
+    trapped(INTERRUPT_IOX, c)
+}
+
+// IOXT's address: all bits of T.
+fn device_address(c: Core) -> u64
+    ensures { λ a. ⌜ a ≡ reg (c .file) T ⌝ }
+{
+    let f = c.file;
+    f.get(Register::T) as u64
+}
+
 // A privileged instruction: done here, or left to be done outside the level.
 fn system_stage(level: u16, c: Core, mem: &mut [u16], tables: &mut [u16], q: System) -> Near
     requires { ⌜ level < levelCount ⌝ }
@@ -141,9 +174,9 @@ fn system_stage(level: u16, c: Core, mem: &mut [u16], tables: &mut [u16], q: Sys
         System::Exam => examined(c, mem, tables),
         System::Depo => deposited(c, mem, tables),
         System::Physical(o, d) => transferred(c, mem, tables, o, d),
-        System::Iox(_) => trapped(INTERRUPT_IOX, c),
-        System::Ioxt => trapped(INTERRUPT_IOX, c),
-        System::Ident(_) => trapped(INTERRUPT_IOX, c),
+        System::Iox(n) => device_stage(c, DeviceEvent::Exchange(n)),
+        System::Ioxt => device_stage(c, DeviceEvent::Exchange(device_address(c))),
+        System::Ident(n) => device_stage(c, DeviceEvent::Identify(n)),
     }
 }
 

@@ -4,6 +4,7 @@ use mathlib.Core.Bool.{false, cond, not}
 use mathlib.Core.List.{List}
 use lib.ListN.{getD, length, replicate}
 use lib.Dec.{ltb, eqb}
+use Rattle.isa.specs.Devices.{deviceCount}
 use Rattle.isa.specs.Machine.{tableWords, fileSize, registerWords, controlCount, number, fileAt, stateOf}
 use Rattle.isa.specs.Answers.{LoadCall, loadCall, runCall}
 use Rattle.isa.specs.declared.machine.Register.{Register}
@@ -46,7 +47,7 @@ afterLoad (AnswerRefused r) c = Refused r
 
 -- the state that load is handed, which nothing is taken from
 abbrev pub clearedState : State
-clearedState = stateOf (replicate registerWords 0) (replicate controlCount 0)
+clearedState = stateOf (replicate registerWords 0) (replicate controlCount 0) (replicate deviceCount 0)
 
 -- an image loaded into lent memory and page tables, and run
 unfoldable pub imageTurned : List ℕ → List ℕ → List ℕ → Turned

@@ -12,6 +12,10 @@ use isa::constant::LEVEL_COUNT;
 use isa::constant::PAGE_WORDS;
 use isa::constant::REGISTER_WORDS;
 use isa::constant::TABLE_WORDS;
+use isa::device::Clock;
+use isa::device::Devices;
+use isa::device::TerminalInput;
+use isa::device::TerminalOutput;
 use isa::machine::Control;
 use isa::machine::File;
 use isa::machine::Register;
@@ -72,7 +76,7 @@ fn end_of(w: Reason, k: u64, s: State) -> End
     }
 }
 
-// All registers and control words 0.
+// All registers, control words and devices 0.
 fn cleared() -> State
     ensures { λ r. ⌜ r ≡ clearedState ⌝ }
 {
@@ -90,6 +94,26 @@ fn cleared() -> State
             iid: 0,
             iie: 0,
             pgs: 0,
+            devices: Devices {
+                clock: Clock {
+                    enabled: 0,
+                    ready: 0,
+                    asks: 0,
+                },
+                input: TerminalInput {
+                    enabled: 0,
+                    unread: 0,
+                    asks: 0,
+                    character: 0,
+                    length: 0,
+                },
+                output: TerminalOutput {
+                    enabled: 0,
+                    waits: 0,
+                    asks: 0,
+                    character: 0,
+                },
+            },
         },
         [0; REGISTER_WORDS],
         [0; LEVEL_COUNT],

@@ -1,4 +1,4 @@
--- PVL, IID, IIE and PGS.
+-- PVL, IID, IIE, and what is behind them.
 -- Assumes nothing.
 use mathlib.Core.Path.{_∙_}
 use borrow.Author.Tests.{lt-ltb, le-ltb}

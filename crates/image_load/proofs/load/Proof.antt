@@ -2,6 +2,7 @@
 -- Assumes nothing.
 use mathlib.Core.Path.{ap, sym, _∙_}
 use borrow.Author.Needs.{needs}
+use Rattle.isa.specs.Images.{kindMemory, kindRegisters, kindControl, kindDevices}
 use Rattle.checks.specs.Answers.{firstOf}
 use Rattle.image_load.proofs.Called.{placeable, placeable-tables, first-done, load-is}
 use Rattle.image_load.proofs.load.Statement.{statement}
@@ -31,17 +32,15 @@ returns c =
 image-answer-requires : tie.Need-image-answer-requires
 image-answer-requires c κs = search needs
 
--- no refusal so far: registers and control words can be placed
+-- no refusal so far: registers, control words and devices' words can be placed
 image-state-requires : tie.Need-image-state-requires
 image-state-requires c κs =
     let at-lent = c .before .before .before .before in
     let start = at-lent .before .before in
     λ e.
     let a = start .args in
-    let p = sym (c .image-answer .ensures) ∙ e in (
-      placeable (a .image .now) (a .mem .now) (a .tables .now) p 2,
-      placeable (a .image .now) (a .mem .now) (a .tables .now) p 3,
-    )
+    let p = placeable (a .image .now) (a .mem .now) (a .tables .now) (sym (c .image-answer .ensures) ∙ e) in
+    (p kindRegisters, (p kindControl, p kindDevices))
 
 range-answer-requires : tie.Need-range-answer-requires
 range-answer-requires c κs = search needs
@@ -58,7 +57,8 @@ store-requires c κs =
     λ e.
     let a = start .args in
     let d = first-done _ _ (sym (c .before .first .ensures) ∙ e) .0 in
-    placeable (a .image .now) (a .mem .now) (a .tables .now) (sym (at-image-answer .image-answer .ensures) ∙ d) 1
+    let p = sym (at-image-answer .image-answer .ensures) ∙ d in
+    placeable (a .image .now) (a .mem .now) (a .tables .now) p kindMemory
 
 -- no refusal: the page tables can be placed
 store-requires-2 : tie.Need-store-requires-2

@@ -50,11 +50,11 @@ use Rattle.isa.proofs.machine.State as T
 use Rattle.isa.proofs.machine.State.Laws as T′
 use Rattle.isa.proofs.answer.Answer as E
 use Rattle.isa.proofs.answer.Answer.Laws as E′
-use Rattle.operations.specs.declared.raise.RaiseResult.{RaiseResult}
-use Rattle.operations.specs.Calls.{raiseOf}
+use Rattle.operations.specs.declared.raise.StateResult.{StateResult}
+use Rattle.operations.specs.Calls.{stateCallOf}
 use Rattle.operations.proofs.Laws.{raise-told}
-use Rattle.operations.proofs.raise.RaiseResult as R
-use Rattle.operations.proofs.raise.RaiseResult.Laws as R′
+use Rattle.operations.proofs.raise.StateResult as R
+use Rattle.operations.proofs.raise.StateResult.Laws as R′
 use Rattle.operations.proofs.raise.raise as raise
 use Rattle.operations.proofs.raise.raise.Symbol as raise-def
 use Rattle.operations.proofs.raise.raise.Symbol.{name as #operations·raise·raise}
@@ -92,8 +92,8 @@ abbrev vals : State → List Val
 vals = LL.vals T.the-type T′.the-laws
 
 -- the call as a whole, of what the callees told
-called : (a : Answer) (n h : State) (r : RaiseResult) (l : ℕ) (m t : List ℕ) → a ≡ r .answer → n ≡ r .state
-    → raiseOf r ≡ raiseCall h l m t → lentRaise a n ≡ raiseCall h l m t
+called : (a : Answer) (n h : State) (r : StateResult) (l : ℕ) (m t : List ℕ) → a ≡ r .answer → n ≡ r .state
+    → stateCallOf r ≡ raiseCall h l m t → lentRaise a n ≡ raiseCall h l m t
 called a n h r l m t ha hn e = (λ i. lentRaise (ha i) (hn i)) ∙ e
 
 module _ {M : Type 1} (𝓤 : URA M) (H : Heap 𝓤) (A : Atoms 𝓤) (at-mem : Memory → SProp 𝓤) (run : Routine → Fun 𝓤) where
@@ -107,11 +107,11 @@ module _ {M : Type 1} (𝓤 : URA M) (H : Heap 𝓤) (A : Atoms 𝓤) (at-mem : 
   abbrev Told : Contract 𝓤
   Told = tripleOf 𝓤 H A told.signature (told.spec 𝓤 H A at-mem run)
 
-  after-of : (r : RaiseResult) (n : State)
+  after-of : (r : StateResult) (n : State)
       → ent 𝓤 (ensured 𝓤 H A after.ended (after.clauses 𝓤 H A at-mem run) tt (r, tt) tt n) (fact 𝓤 (n ≡ r .state))
   after-of r n = exE 𝓤 _ (λ ws. snd∗ 𝓤 (sem 𝓤 H A (lasts after.ended tt (r, tt) ws)) (fact 𝓤 (n ≡ r .state)))
 
-  told-of : (r : RaiseResult) (a : Answer)
+  told-of : (r : StateResult) (a : Answer)
       → ent 𝓤 (ensured 𝓤 H A told.ended (told.clauses 𝓤 H A at-mem run) tt (r, tt) tt a) (fact 𝓤 (a ≡ r .answer))
   told-of r a = exE 𝓤 _ (λ ws. snd∗ 𝓤 (sem 𝓤 H A (lasts told.ended tt (r, tt) ws)) (fact 𝓤 (a ≡ r .answer)))
 
@@ -191,19 +191,19 @@ module _ {M : Type 1} (𝓤 : URA M) (H : Heap 𝓤) (A : Atoms 𝓤) (W : Given
       frame ! $ done !
 
   -- of the callee's `ensured`, the first clause alone: it has no `&mut`
-  raise-of : (r : RaiseResult)
+  raise-of : (r : StateResult)
       → ent 𝓤 (ensured 𝓤 H A raise.ended (raise.clauses 𝓤 H A at-mem run) (κ′, (κ″, tt))
-      (h, (level, (mem′, (tab′, tt)))) tt r) (fact 𝓤 (raiseOf r ≡ raiseCall h level m t))
+      (h, (level, (mem′, (tab′, tt)))) tt r) (fact 𝓤 (stateCallOf r ≡ raiseCall h level m t))
   raise-of r =
       exE 𝓤 _ (λ ws. via 𝓤 _
       (snd∗ 𝓤 (sem 𝓤 H A (lasts raise.ended (κ′, (κ″, tt)) (h, (level, (mem′, (tab′, tt)))) ws)) _)
-      (fst∗ 𝓤 (fact 𝓤 (raiseOf r ≡ raiseCall h level m t))
+      (fst∗ 𝓤 (fact 𝓤 (stateCallOf r ≡ raiseCall h level m t))
       (fact 𝓤 (answerNumbers (r .answer) ≡ raiseTold h level m t))))
 
-  abbrev to-after : RaiseResult → Val → After 𝓤 H A at-mem run .Ghost
+  abbrev to-after : StateResult → Val → After 𝓤 H A at-mem run .Ghost
   to-after r v = ((tt, tt, tt, (r, tt), (v ∷ [], tt)), tt)
 
-  abbrev to-told : RaiseResult → Val → Told 𝓤 H A at-mem run .Ghost
+  abbrev to-told : StateResult → Val → Told 𝓤 H A at-mem run .Ghost
   to-told r v = ((tt, tt, tt, (r, tt), (v ∷ [], tt)), tt)
 
   module _ (C : Calls 𝓤 H) (Λ : Loops 𝓤 H) (fm : FmC 𝓤 H (W .laws) C)
@@ -244,12 +244,12 @@ module _ {M : Type 1} (𝓤 : URA M) (H : Heap 𝓤) (A : Atoms 𝓤) (W : Given
         (and-then ! (load ! (from ! (stop !)) (look ! 10 refl)) (and-then ! (load ! (from ! (stop !)) (look ! 16 refl))
         (and-then ! (load ! (from ! (stop !)) (look ! 14 refl))
         (and-then ! (load ! (from ! (stop !)) (look ! 12 refl)) (no-more !))))) (λ v.
-        use1 W (later (some (λ (r : RaiseResult).
+        use1 W (later (some (λ (r : StateResult).
         ((‵ (flft κ′ q′) ⊛ ‵ (flft κ″ q″) ⊛ ‵ ftrue) ⊛ ‵ (R.the-row .own r (v ∷ [])))
         ⊛ raw (ensured 𝓤 H A raise.ended (raise.clauses 𝓤 H A at-mem run) (κ′, (κ″, tt))
         (h, (level, (mem′, (tab′, tt)))) tt r)))) (id⊢ 𝓤 _) $ await ! tt $ pick ! (λ r.
-        split ! $ move ! (1 ∷ []) $ use1 W (raw (fact 𝓤 (raiseOf r ≡ raiseCall h level m t))) (raise-of r) $
-        heard ! (raiseOf r ≡ raiseCall h level m t) (λ e. split ! $ move ! (1 ∷ []) $
+        split ! $ move ! (1 ∷ []) $ use1 W (raw (fact 𝓤 (stateCallOf r ≡ raiseCall h level m t))) (raise-of r) $
+        heard ! (stateCallOf r ≡ raiseCall h level m t) (λ e. split ! $ move ! (1 ∷ []) $
         -- [the result; the tokens; the slices; the record's cell; the open borrow; obs; auth; _7; …]
         peeks ! R.the-row (Is R.the-row) (shows 𝓤 H A R.the-row) r (v ∷ []) (λ is′.
         land ! (from ! (stop !)) (init ! 9 refl (LL.lawful R.the-type R′.the-laws 𝓤 H A W .typed r _ is′ .0)) $

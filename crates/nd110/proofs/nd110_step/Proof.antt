@@ -4,9 +4,9 @@ use Prim.Native.Nat.{ℕ, _-_}
 use mathlib.Core.Path.{_≡_, sym, ap, _∙_}
 use mathlib.Core.List.{List, [], _∷_}
 use native.Mathlib.Omega.{arith}
-use lib.ListN.{length, take, drop, length-drop}
+use lib.ListN.{length, take, drop, length-append, length-drop}
 use lib.Seq.{length-take-le, take-all}
-use Rattle.isa.specs.Machine.{registerWords, controlOf, stateOf}
+use Rattle.isa.specs.Machine.{registerWords, controlCount, firstDevice, controlOf, stateOf}
 use Rattle.nd110.proofs.Laws.{called-badly, step-on-words}
 use borrow.Author.Needs.{needs}
 use Rattle.nd110.proofs.nd110_step.Statement.{statement}
@@ -26,7 +26,7 @@ abbrev controlled : tie.After-pcrs-of → tie.After-control-of
 controlled c = c .before .before .before
 
 abbrev tested : tie.After-control-of → tie.Else1
-tested c = c .before .before .before .before
+tested c = let lent = c .before .before .before .before in lent .before
 
 abbrev started : tie.After-control-of → tie.Start
 started c = let known = tested c in known .before .before .before .before
@@ -46,6 +46,15 @@ part-control-of-start c = search needs
 
 part-control-of-end : tie.Need-part-control-of-end
 part-control-of-end c = search needs
+
+sub-control-of-2 : tie.Need-sub-control-of-2
+sub-control-of-2 c = search needs
+
+part-control-of-start-2 : tie.Need-part-control-of-start-2
+part-control-of-start-2 c = search needs
+
+part-control-of-end-2 : tie.Need-part-control-of-end-2
+part-control-of-end-2 c = search needs
 
 control-of-requires : tie.Need-control-of-requires
 control-of-requires c κs = search needs
@@ -82,8 +91,20 @@ step-requires c κs =
 slice-aggregate-tell-step : tie.Need-slice-aggregate-tell-step
 slice-aggregate-tell-step c = search needs
 
+-- the registers that the step left, and the other words
 tell-step-requires : tie.Need-tell-step-requires
-tell-step-requires c κs = search needs
+tell-step-requires c κs =
+    let tables = c .before .before .before .before in
+    let pcrs = tables .before .before .before .before in
+    let done = pcrs .before .before in
+    let control = controlled (entered (done .before)) in
+    let w = started control .args .state .now in
+    let long = tested control .if1 .left in
+    let front = done .step .kept .1 .1 .0 ∙ length-take-le registerWords w (omega (arith, long)) in (
+      search needs,
+      length-append (done .step .last .1 .1 .0) (drop registerWords w)
+          ∙ omega (arith, front, length-drop registerWords w, long),
+    )
 
 same-length : tie.Need-same-length
 same-length c = search needs
@@ -104,11 +125,12 @@ returns-2 c =
     let a = started control .args in
     let w = a .state .now in
     let long = tested control .if1 .left in
-    let rest : take (length w - registerWords) (drop registerWords w) ≡ drop registerWords w =
-    take-all (length w - registerWords) (drop registerWords w) (simp length-drop (omega arith)) in
+    let rest : take (length w - firstDevice) (drop firstDevice w) ≡ drop firstDevice w =
+    take-all (length w - firstDevice) (drop firstDevice w) (simp length-drop (omega arith)) in
     step-on-words w (a .mem .now) (a .tables .now) (a .interrupt .now ∷ []) _ _ _ _ _ _ _ _ long
-    (control .control-of .ensures ∙ ap (λ (l : List ℕ). controlOf (stateOf [] l)) rest)
-    (pcrs .pcrs-of .ensures ∙ ap (λ (l : List ℕ). stateOf [] l .pcr) rest)
+    (control .control-of .ensures
+    ∙ ap (λ (l : List ℕ). controlOf (stateOf [] (take controlCount (drop registerWords w)) l)) rest)
+    (pcrs .pcrs-of .ensures)
     (done .step .kept .1 .1 .0 ∙ length-take-le registerWords w (omega (arith, long)))
     (done .step .ensures) (told .tell-step .ensures _ _)
 
@@ -121,6 +143,9 @@ nd110-step-spec =
     sub-control-of
     part-control-of-start
     part-control-of-end
+    sub-control-of-2
+    part-control-of-start-2
+    part-control-of-end-2
     control-of-requires
     sub-pcrs-of
     part-pcrs-of-start

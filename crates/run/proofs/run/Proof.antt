@@ -68,12 +68,15 @@ returns c =
     let left : stateWith (r .result .level) (r .result .core .control) (back .last .1 .1 .0) (back .last .1 .1 .1 .0)
     ≡ pack (r .result .level) (r .result .core) (after .0) (after .1 .0) =
     λ i. stateWith (r .result .level) (r .result .core .control) (back .ensures .0 i) (back .ensures .1 i) in (
-      ap (λ (x : State). ended (r .result .reason) (r .result .steps) x (after .1 .1 .0) (after .1 .1 .1 .0)) left
-          ∙ r .ensures .1 .0
-          ∙ ap (λ (x : State). runFrom (a .first) (a .n) 0 x m t) packed,
-      λ o f. ap (λ (x : State). turn x (r .result .gave) (after .1 .1 .0) (after .1 .1 .1 .0)) left
-          ∙ r .ensures .1 .1 o f
-          ∙ ap (λ (x : State). step x m t) packed,
+      r .ensures .0,
+      (
+        ap (λ (x : State). ended (r .result .reason) (r .result .steps) x (after .1 .1 .0) (after .1 .1 .1 .0)) left
+            ∙ r .ensures .1 .0
+            ∙ ap (λ (x : State). runFrom (a .first) (a .n) 0 x m t) packed,
+        λ o f. ap (λ (x : State). turn x (r .result .gave) (after .1 .1 .0) (after .1 .1 .1 .0)) left
+            ∙ r .ensures .1 .1 o f
+            ∙ ap (λ (x : State). step x m t) packed,
+      ),
     )
 
 pub run-spec : {M : Type 1} → statement M

@@ -1,7 +1,11 @@
 -- Instruction by instruction.
 -- Assumes nothing.
-use mathlib.Core.Path.{_∙_}
+use Prim.Native.Nat.{ℕ}
+use mathlib.Core.Path.{ap, _∙_}
 use borrow.Author.Needs.{needs}
+use Rattle.isa.specs.Step.{deviceStage, identStage}
+use Rattle.devices.specs.declared.event.DeviceEvent.the-variants.{Exchange}
+use Rattle.trap.specs.Parts.{eventStage}
 use Rattle.trap.proofs.system_stage.Statement.{statement}
 use Rattle.trap.proofs.system_stage.Tie as tie
 
@@ -68,23 +72,26 @@ enum-known-q-6 c = search needs
 transferred-requires : tie.Need-transferred-requires
 transferred-requires c κs = search needs
 
+enum-known-q-7 : tie.Need-enum-known-q-7
+enum-known-q-7 c = search needs
+
+device-stage-requires : tie.Need-device-stage-requires
+device-stage-requires c κs = search needs
+
 enum-told-5 : tie.Need-enum-told-5
 enum-told-5 c = search needs
 
-trapped-requires : tie.Need-trapped-requires
-trapped-requires c κs = search needs
+device-address-requires : tie.Need-device-address-requires
+device-address-requires c κs = search needs
 
-enum-told-6 : tie.Need-enum-told-6
-enum-told-6 c = search needs
+device-stage-requires-2 : tie.Need-device-stage-requires-2
+device-stage-requires-2 c κs = search needs
 
-trapped-requires-2 : tie.Need-trapped-requires-2
-trapped-requires-2 c κs = search needs
+enum-known-q-8 : tie.Need-enum-known-q-8
+enum-known-q-8 c = search needs
 
-enum-told-7 : tie.Need-enum-told-7
-enum-told-7 c = search needs
-
-trapped-requires-3 : tie.Need-trapped-requires-3
-trapped-requires-3 c κs = search needs
+device-stage-requires-3 : tie.Need-device-stage-requires-3
+device-stage-requires-3 c κs = search needs
 
 -- a control instruction
 returns : tie.Need-returns
@@ -150,15 +157,24 @@ returns-10 c =
 
 -- IOX
 returns-11 : tie.Need-returns-11
-returns-11 c = simp (c .before .enum-told5 .given .1) (c .trapped .ensures _ _)
+unfolding deviceStage
+returns-11 c = simp (c .before .before .q7 .given .1) (c .device-stage .ensures _ _)
 
 -- IOXT
 returns-12 : tie.Need-returns-12
-returns-12 c = simp (c .before .enum-told6 .given .1) (c .trapped2 .ensures _ _)
+unfolding deviceStage
+returns-12 c =
+    let told = c .before .before in
+    let a = told .before .before .before .before .args in
+    simp (told .enum-told5 .given .1)
+    (c .device-stage2 .ensures _ _
+    ∙ ap (λ (n : ℕ). eventStage (a .c) (a .mem .now) (a .tables .now) (Exchange n))
+    (c .before .device-address .ensures))
 
 -- IDENT
 returns-13 : tie.Need-returns-13
-returns-13 c = simp (c .before .enum-told7 .given .1) (c .trapped3 .ensures _ _)
+unfolding identStage
+returns-13 c = simp (c .before .before .q8 .given .1) (c .device-stage3 .ensures _ _)
 
 pub system-stage-spec : {M : Type 1} → statement M
 system-stage-spec =
@@ -185,12 +201,13 @@ system-stage-spec =
     deposited-requires
     enum-known-q-6
     transferred-requires
+    enum-known-q-7
+    device-stage-requires
     enum-told-5
-    trapped-requires
-    enum-told-6
-    trapped-requires-2
-    enum-told-7
-    trapped-requires-3
+    device-address-requires
+    device-stage-requires-2
+    enum-known-q-8
+    device-stage-requires-3
     returns
     returns-2
     returns-3

@@ -32,27 +32,27 @@ enum-told-7 : tie.Need-enum-told-7
 enum-told-7 c = search needs
 
 returns : tie.Need-returns
-returns c = search needs
+returns c = simp (c .enum-told .given .1)
 
 -- Pgs
 returns-2 : tie.Need-returns-2
 returns-2 c = simp (c .released .ensures, c .before .enum-told2 .given .1)
 
 returns-3 : tie.Need-returns-3
-returns-3 c = search needs
+returns-3 c = simp (c .enum-told3 .given .1)
 
 -- Iic
 returns-4 : tie.Need-returns-4
 returns-4 c = simp (c .without-interrupts .ensures, c .before .enum-told4 .given .1)
 
 returns-5 : tie.Need-returns-5
-returns-5 c = search needs
+returns-5 c = simp (c .enum-told5 .given .1)
 
 returns-6 : tie.Need-returns-6
-returns-6 c = search needs
+returns-6 c = simp (c .enum-told6 .given .1)
 
 returns-7 : tie.Need-returns-7
-returns-7 c = search needs
+returns-7 c = simp (c .enum-told7 .given .1)
 
 pub after-reading-spec : {M : Type 1} → statement M
 after-reading-spec =

@@ -22,11 +22,11 @@ returns c = simp (c .get .ensures, c .before .enum-told .given .1)
 
 -- Pid
 returns-2 : tie.Need-returns-2
-returns-2 c = search needs
+returns-2 c = simp (c .enum-told2 .given .1)
 
 -- Pie
 returns-3 : tie.Need-returns-3
-returns-3 c = search needs
+returns-3 c = simp (c .enum-told3 .given .1)
 
 pub maskable-word-spec : {M : Type 1} → statement M
 maskable-word-spec =

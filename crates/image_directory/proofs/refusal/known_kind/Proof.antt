@@ -1,4 +1,4 @@
--- Kinds 1 to 4.
+-- Kinds 1 to 5.
 -- Assumes nothing.
 use borrow.Author.Tests.{lt-leb, le-leb}
 use Rattle.image_directory.proofs.refusal.known_kind.Statement.{statement}

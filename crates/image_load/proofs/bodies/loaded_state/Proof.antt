@@ -1,4 +1,4 @@
--- Registers and control words, as loaded.
+-- Registers, control words and devices' words, as loaded.
 -- Assumes nothing.
 use mathlib.Core.Path.{_∙_}
 use borrow.Author.Needs.{needs}
@@ -18,14 +18,22 @@ slice-aggregate-fill-2 c = search needs
 fill-requires-2 : tie.Need-fill-requires-2
 fill-requires-2 c κs = search needs
 
+slice-aggregate-fill-3 : tie.Need-slice-aggregate-fill-3
+slice-aggregate-fill-3 c = search needs
+
+fill-requires-3 : tie.Need-fill-requires-3
+fill-requires-3 c κs = search needs
+
 state-of-requires : tie.Need-state-of-requires
 state-of-requires c κs = search needs
 
 returns : tie.Need-returns
 returns c =
-    let at-fill2 = c .before .before in
+    let at-fill3 = c .before .before in
+    let at-fill2 = at-fill3 .before .before .before in
     let at-fill = at-fill2 .before .before .before in
-    c .state-of .ensures ∙ (λ j. stateOf (at-fill .fill .ensures j) (at-fill2 .fill2 .ensures j))
+    c .state-of .ensures
+    ∙ (λ j. stateOf (at-fill .fill .ensures j) (at-fill2 .fill2 .ensures j) (at-fill3 .fill3 .ensures j))
 
 pub loaded-state-spec : {M : Type 1} → statement M
 loaded-state-spec =
@@ -35,5 +43,7 @@ loaded-state-spec =
     fill-requires
     slice-aggregate-fill-2
     fill-requires-2
+    slice-aggregate-fill-3
+    fill-requires-3
     state-of-requires
     returns)

@@ -1,8 +1,9 @@
--- Registers and control words, as copied.
+-- Registers, control words and devices' words, as copied.
 -- Assumes nothing.
 use mathlib.Core.Path.{refl, _∙_}
-use lib.ListN.{replicate}
-use Rattle.isa.specs.Machine.{registerWords, controlCount, stateOf}
+use lib.ListN.{drop, replicate}
+use Rattle.isa.specs.Machine.{registerWords, controlCount, firstDevice, stateOf}
+use Rattle.isa.specs.Devices.{deviceCount}
 use Rattle.image_load.proofs.Placed.{copied-front, copied-rest}
 use borrow.Author.Needs.{needs}
 use Rattle.image_load.proofs.bodies.state_in.Statement.{statement}
@@ -20,19 +21,28 @@ slice-aggregate-copy-2 c = search needs
 copy-requires-2 : tie.Need-copy-requires-2
 copy-requires-2 c κs = search needs
 
+slice-aggregate-copy-3 : tie.Need-slice-aggregate-copy-3
+slice-aggregate-copy-3 c = search needs
+
+copy-requires-3 : tie.Need-copy-requires-3
+copy-requires-3 c κs = search needs
+
 state-of-requires : tie.Need-state-of-requires
 state-of-requires c κs = search needs
 
 returns : tie.Need-returns
 returns c =
-    let second = c .before .before in
+    let third = c .before .before in
+    let second = third .before .before .before in
     let first = second .before .before .before in
     let start = first .before .before .before in
     let w = start .args .words .now in
     let regs = first .copy .ensures ∙ copied-front registerWords w (replicate registerWords 0) refl in
     let control = second .copy2 .ensures
-    ∙ copied-rest registerWords controlCount w (replicate controlCount 0) (start .pre) refl in
-    c .state-of .ensures ∙ (λ i. stateOf (regs i) (control i))
+    ∙ copied-front controlCount (drop registerWords w) (replicate controlCount 0) refl in
+    let devices = third .copy3 .ensures
+    ∙ copied-rest firstDevice deviceCount w (replicate deviceCount 0) (start .pre) refl in
+    c .state-of .ensures ∙ (λ i. stateOf (regs i) (control i) (devices i))
 
 pub state-in-spec : {M : Type 1} → statement M
 state-in-spec =
@@ -42,5 +52,7 @@ state-in-spec =
     copy-requires
     slice-aggregate-copy-2
     copy-requires-2
+    slice-aggregate-copy-3
+    copy-requires-3
     state-of-requires
     returns)

@@ -1,4 +1,4 @@
--- The control words beside the level, and the PCRs.
+-- The control words beside the level, the PCRs, and the devices.
 -- Assumes nothing.
 use mathlib.Core.Path.{_∙_}
 use lib.ListN.{getD}
@@ -9,6 +9,9 @@ use Rattle.image_load.proofs.bodies.state_of.Tie as tie
 
 slice-aggregate-control-of : tie.Need-slice-aggregate-control-of
 slice-aggregate-control-of c = search needs
+
+slice-aggregate-control-of-2 : tie.Need-slice-aggregate-control-of-2
+slice-aggregate-control-of-2 c = search needs
 
 control-of-requires : tie.Need-control-of-requires
 control-of-requires c κs = search needs
@@ -29,7 +32,7 @@ returns : tie.Need-returns
 returns c =
     let pcrs = c .before in
     let control = pcrs .before .before in
-    let a = control .before .before .args in
+    let a = control .before .before .before .args in
     c .with .ensures
     ∙ (λ i. stateWith (getD (a .t2) 0 0) (control .control-of .ensures i) (a .regs) (pcrs .pcrs-of .ensures i))
 
@@ -38,6 +41,7 @@ state-of-spec =
     tie.close
     (tie.spec
     slice-aggregate-control-of
+    slice-aggregate-control-of-2
     control-of-requires
     slice-aggregate-pcrs-of
     pcrs-of-requires

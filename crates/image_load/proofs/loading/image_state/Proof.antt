@@ -18,8 +18,9 @@ enum-told-2 c = search needs
 returns : tie.Need-returns
 returns c = simp (c .before .enum-told .given .1) (c .loaded-state .ensures)
 
+-- refused: the state that came
 returns-2 : tie.Need-returns-2
-returns-2 c = search needs
+returns-2 c = simp (c .enum-told2 .given .1)
 
 pub image-state-spec : {M : Type 1} → statement M
 image-state-spec =

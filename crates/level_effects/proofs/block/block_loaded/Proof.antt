@@ -36,8 +36,12 @@ reloaded-requires c κs =
     let start = started test in
     (start .pre .0, put .put-block .kept .1 .0 ∙ test .tested .kept .1 .1 .0 ∙ start .pre .1 .0)
 
+-- all accesses passed: the registers keep their number
 same-length : tie.Need-same-length
-same-length c = search needs
+same-length c =
+    let put = c .before .before .before .before in
+    let judged = put .before .before .before .before in
+    put .put-block .kept .1 .0 ∙ asked (judged .before) .tested .kept .1 .1 .0
 
 same-length-2 : tie.Need-same-length-2
 same-length-2 c = search needs

@@ -12,7 +12,7 @@ returns : tie.Need-returns
 returns c = simp (c .change-due .ensures, c .before .if1 .taken)
 
 returns-2 : tie.Need-returns-2
-returns-2 c = search needs
+returns-2 c = simp (c .if1 .left)
 
 pub level-ends-spec : {M : Type 1} → statement M
 level-ends-spec = tie.close (tie.spec change-due-requires returns returns-2)

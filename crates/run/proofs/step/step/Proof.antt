@@ -64,7 +64,7 @@ returns c =
     let running = regs .before in
     let answered = told (running .before) in
     let a = started (asked answered) .args in
-    ap steppedCall (running .run .ensures .1 refl refl)
+    ap steppedCall (running .run .ensures .1 .1 refl refl)
     ∙ ap (λ (x : Answer).
     stepCallBy x (stateWith (a .level) (a .k) (a .regs .now) (a .pcrs .now)) (a .mem .now) (a .tables .now))
     (sym (answered .enum-told .given .1) ∙ asked answered .parts-answer .ensures)

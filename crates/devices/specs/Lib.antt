@@ -1,0 +1,2 @@
+-- What device code answers to.
+pub mod Events

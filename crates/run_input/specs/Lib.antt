@@ -1,0 +1,2 @@
+-- What a run with device input leaves.
+pub mod Inputs
