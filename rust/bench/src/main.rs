@@ -9,15 +9,15 @@ use std::time::Instant;
 
 const USAGE: &str = "\
 usage: bench [STEPS]
-       bench ours STEPS [extended] [calls | lent]
-       bench rust STEPS [extended] [calls]
+       bench ours STEPS [extended | iox | tra] [calls | lent]
+       bench rust STEPS [extended | iox | tra] [calls]
 
-Times the proved engine (ours) and the second engine (Rust) on mixed.octal, and a run of
-extended.octal, 30,000,000 steps a repetition unless said otherwise. The last line is 'ratio R',
-the median of our run of mixed.octal over that of Rust's. With 'ours' or 'rust' it only runs that
-engine, for a profiler; with 'extended' extended.octal; with 'calls' by as many calls of the step,
-with 'lent' by as many of the lent step. Built with the feature 'inlined' the second engine has
-forced inlining on the path of its step.";
+Times the proved engine (ours) and the second engine (Rust) on mixed.octal, and runs of
+extended.octal, iox.octal and tra.octal, 30,000,000 steps a repetition unless said otherwise. The
+last line is 'ratio R', the median of our run of mixed.octal over that of Rust's. With 'ours' or
+'rust' it only runs that engine, for a profiler; with the name of another image that one; with
+'calls' by as many calls of the step, with 'lent' by as many of the lent step. Built with the feature
+'inlined' the second engine has forced inlining on the path of its step.";
 
 const REPETITIONS: usize = 5;
 /// A repetition is so many slices of each engine, in turn, so that what disturbs the machine disturbs both.
@@ -138,7 +138,7 @@ fn rust_images(pages: usize, n: u64) -> Left {
 }
 
 fn same(a: &Left, b: &Left) {
-    assert!(a.words == b.words, "registers and control words");
+    assert!(a.words == b.words, "registers, control words and devices");
     assert!(a.memory == b.memory, "memory");
     assert!(a.tables == b.tables, "tables");
     assert_eq!(a.words[135], 0, "the image gives no interrupt");
@@ -228,6 +228,8 @@ fn compare(steps: u64) {
         )
     };
     run("run in extended mode", Image::Extended);
+    run("run of IOX", Image::Iox);
+    run("run of TRA", Image::Tra);
     let ratio = run("run", Image::Mixed);
     println!("ratio {ratio:.3}");
 }
@@ -242,11 +244,9 @@ fn main() -> ExitCode {
             return Ok(());
         }
         let steps = args.number("STEPS", 1..=u64::MAX)?;
-        let image = if args.next_is("extended") {
-            Image::Extended
-        } else {
-            Image::Mixed
-        };
+        let mut named = Image::NAMED.into_iter();
+        let image = named.find(|(name, _)| args.next_is(name));
+        let image = image.map_or(Image::Mixed, |(_, image)| image);
         let by = if args.next_is("calls") {
             By::Calls
         } else if is_ours && args.next_is("lent") {

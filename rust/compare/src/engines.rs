@@ -2,7 +2,7 @@
 
 use nd110::{Refusal, State as Words};
 use second::vectors::Start;
-use second::{Interrupt, REGISTER_WORDS, Reason, State};
+use second::{CONTROL_WORDS, Input, Interrupt, REGISTER_WORDS, Reason, State, Told};
 
 /// The same machine twice: ours in the library's words, the other in the second engine's.
 pub struct Both {
@@ -33,7 +33,7 @@ impl Both {
         }
     }
 
-    /// Registers of all levels, control words, page tables and memory.
+    /// Registers of all levels, control words, devices, page tables and memory.
     pub fn equal(&self) -> bool {
         self.ours.0 == self.theirs.state.to_words()
             && self.our_tables == self.theirs.tables
@@ -43,15 +43,19 @@ impl Both {
     /// Words that differ, ours first.
     pub fn differing(&self) -> Vec<String> {
         let theirs = self.theirs.state.to_words();
-        let (registers, control) = self.ours.0.split_at(REGISTER_WORDS);
-        let kinds = [
-            ("register", registers, &theirs[..REGISTER_WORDS]),
-            ("control word", control, &theirs[REGISTER_WORDS..]),
-            ("page table word", &self.our_tables, &self.theirs.tables),
-            ("memory word", &self.our_memory, &self.theirs.memory),
+        let [ours, theirs] = [&self.ours.0, &theirs].map(|words| {
+            let (registers, rest) = words.split_at(REGISTER_WORDS);
+            let (control, devices) = rest.split_at(CONTROL_WORDS);
+            [registers, control, devices]
+        });
+        let names = ["register", "control word", "device word"];
+        let of_state = names.into_iter().zip(ours.into_iter().zip(theirs));
+        let lent: [(_, (&[u16], &[u16])); 2] = [
+            ("page table word", (&self.our_tables, &self.theirs.tables)),
+            ("memory word", (&self.our_memory, &self.theirs.memory)),
         ];
         let mut lines = Vec::new();
-        for (name, ours, theirs) in kinds {
+        for (name, (ours, theirs)) in of_state.chain(lent) {
             for (at, (a, b)) in ours.iter().zip(theirs).enumerate() {
                 if a != b {
                     lines.push(format!("{name} {at:o}: proved {a:06o}, second {b:06o}"));
@@ -142,6 +146,69 @@ impl Both {
         )
     }
 
+    /// An input of both between two steps, a raise among them.
+    pub fn input(&mut self, input: Input) -> Result<(), Answers> {
+        let (ours, memory, tables) = (&mut self.ours, &self.our_memory, &self.our_tables);
+        let Start {
+            state: theirs,
+            memory: their_memory,
+            tables: their_tables,
+        } = &mut self.theirs;
+        let (ours, theirs) = match input {
+            Input::Raise(level) => return self.raise(level),
+            Input::Tick => (
+                nd110::tick(ours, memory, tables).map(|()| None),
+                second::tick(theirs, their_memory, their_tables).map(|()| None),
+            ),
+            Input::Typed(character) => (
+                nd110::type_character(ours, character, memory, tables).map(|()| None),
+                second::type_character(theirs, their_memory, their_tables, character)
+                    .map(|()| None),
+            ),
+            Input::ReadOut => (
+                nd110::read_out(ours, memory, tables),
+                second::read_out(theirs, their_memory, their_tables),
+            ),
+        };
+        let ours = ours.map_err(|r| r.number());
+        let theirs = theirs.map_err(|r| r.number());
+        same(format!("{ours:?}"), format!("{theirs:?}"))
+    }
+
+    /// A run of both to the first interrupt with device input: the steps taken, or none where both refuse.
+    pub fn run_with_input(&mut self, steps: u64, inputs: &[(u64, Input)]) -> Result<u64, Answers> {
+        let our_inputs: Vec<_> = inputs.iter().map(|(at, i)| (*at, our_input(*i))).collect();
+        let ours = nd110::run_with_input(
+            &mut self.ours,
+            &mut self.our_memory,
+            &mut self.our_tables,
+            steps,
+            &our_inputs,
+        );
+        let them = &mut self.theirs;
+        let theirs = second::run_with_input(
+            &mut them.state,
+            &mut them.memory,
+            &mut them.tables,
+            steps,
+            inputs,
+        );
+        let ours = ours
+            .map(|ran| {
+                let told: Vec<_> = ran.told.into_iter().map(our_told).collect();
+                (ran.steps, ran.reason.number(), told)
+            })
+            .map_err(|r| r.number());
+        let theirs = theirs
+            .map(|ran| {
+                let told: Vec<_> = ran.told.into_iter().map(their_told).collect();
+                (ran.steps, reason(ran.reason), told)
+            })
+            .map_err(|r| r.number());
+        same(format!("{ours:?}"), format!("{theirs:?}"))?;
+        Ok(ours.map_or(0, |(n, _, _)| n))
+    }
+
     /// The image that each writes; Ok only if they are one.
     pub fn write(&self) -> Result<Vec<u16>, Answers> {
         let mut ours = vec![0o52525; self.our_memory.len() + nd110::IMAGE_EXTRA + 3];
@@ -174,6 +241,37 @@ impl Both {
             format!("{ours:?}"),
             format!("{:?}", theirs.map(|_| ()).map_err(|r| r.number())),
         )
+    }
+}
+
+/// The library's form of an input.
+fn our_input(input: Input) -> nd110::Input {
+    match input {
+        Input::Raise(level) => nd110::Input::Raise(level),
+        Input::Tick => nd110::Input::Tick,
+        Input::Typed(character) => nd110::Input::Typed(character),
+        Input::ReadOut => nd110::Input::ReadOut,
+    }
+}
+
+/// What an input was told by either, with the refusal's number or the character.
+type ToldWith = (&'static str, u16);
+
+fn our_told(told: nd110::Told) -> ToldWith {
+    match told {
+        nd110::Told::Done => ("done", 0),
+        nd110::Told::Refused(refusal) => ("refused", refusal.number()),
+        nd110::Told::Character(character) => ("character", character.into()),
+        nd110::Told::None => ("none", 0),
+    }
+}
+
+fn their_told(told: Told) -> ToldWith {
+    match told {
+        Told::Done => ("done", 0),
+        Told::Refused(refusal) => ("refused", refusal.number()),
+        Told::Character(character) => ("character", character.into()),
+        Told::None => ("none", 0),
     }
 }
 

@@ -1,5 +1,5 @@
 //! The proved engine, as the static library, against the second engine: random machines and programs, whole states
-//! compared after every step, or after runs of some steps each.
+//! compared after every step, or after runs of some steps each, and after each device input.
 
 mod programs;
 mod report;
@@ -8,7 +8,7 @@ use compare::engines::{Answers, Both};
 use report::Taken;
 use second::random::Random;
 use second::vectors::{Start, older_image};
-use second::{CONTROL_WORDS, TABLE_WORDS, control};
+use second::{CONTROL_WORDS, DEVICE_WORDS, Input, TABLE_WORDS, control};
 use std::process::ExitCode;
 use std::time::{Duration, Instant};
 
@@ -16,14 +16,17 @@ const USAGE: &str = "\
 usage: compare SEED STEPS
 
 Follows the proved engine and the second engine on random machines and programs, half of them step
-by step and half in runs of some steps each, and compares whole states after every step or run.
-Every second program that is followed step by step is so by lent steps and raises. The same seed
-gives the same machines. The last line is 'N steps compared, M differences'.";
+by step and half in runs of some steps each, with and without device input, and compares answers and
+whole states after every step, run and device input between them. Every second program that is
+followed step by step is so by lent steps and raises. The same seed gives the same machines. The last
+line is 'N steps compared, M differences'.";
 
 /// Steps that a program is followed.
 const LENGTH: u64 = 64;
 /// Most steps of one run of a program that is followed in runs.
 const RUN: u64 = 24;
+/// Words of the list of contents that the writer makes: the number of entries, and five of five words.
+const CONTENTS: u64 = 1 + 5 * 5;
 
 /// How a program is followed: by runs of some steps each, by steps, or by lent steps.
 #[derive(Clone, Copy, PartialEq)]
@@ -31,6 +34,21 @@ enum By {
     Runs,
     Steps,
     Lent,
+}
+
+/// What is taken next of so many steps.
+fn next(random: &mut Random, by: By, left: u64) -> Taken {
+    match by {
+        By::Runs => {
+            let steps = 1 + random.below(RUN.min(left));
+            match random.below(2) {
+                0 => Taken::Run(steps),
+                _ => Taken::WithInput(steps, programs::inputs(random, steps)),
+            }
+        }
+        By::Steps => Taken::Step,
+        By::Lent => Taken::Lent,
+    }
 }
 
 struct Tally {
@@ -82,21 +100,21 @@ impl Tally {
         let mut left = LENGTH;
         while left > 0 {
             let before = both.theirs.clone();
-            let (taken, answers) = match by {
-                By::Runs => {
-                    let steps = 1 + random.below(RUN.min(left));
-                    (Taken::Run(steps), both.run(steps, false))
-                }
-                By::Steps => (Taken::Step, both.step().map(|()| 1)),
-                By::Lent => (Taken::Lent, both.step_lent().map(|()| 1)),
-            };
+            let taken = next(random, by, left);
+            let answers = taken.by(&mut both);
             let steps = *answers.as_ref().unwrap_or(&1);
             self.steps += steps;
             if answers.is_err() || !both.equal() {
-                self.differ("steps", || report::print(&before, taken));
+                self.differ("steps", || report::print(&before, &taken));
                 return;
             }
-            if steps == 0 || by != By::Runs && both.theirs == before {
+            let ended = match taken {
+                Taken::Step | Taken::Lent => both.theirs == before,
+                Taken::Run(_) => steps == 0,
+                // Before a level that is due: a run through goes on.
+                Taken::WithInput(..) => false,
+            };
+            if ended {
                 return;
             }
             left -= steps;
@@ -104,18 +122,18 @@ impl Tally {
         }
     }
 
-    /// What a host does between two steps: nothing, a device's interrupt, or a register of the running level set.
+    /// What a host does between two steps: nothing, device input, or a register of the running level set.
     fn host(&mut self, random: &mut Random, both: &mut Both, by: By) {
         match random.below(16) {
-            0 => {
-                let level = random.below(17) as u16;
-                let answers = match by {
-                    By::Lent => both.raise_lent(level),
-                    By::Runs | By::Steps => both.raise(level),
+            0..=3 => {
+                let input = programs::input(random);
+                let answers = match (by, input) {
+                    (By::Lent, Input::Raise(level)) => both.raise_lent(level),
+                    _ => both.input(input),
                 };
-                self.note("raise", answers, both);
+                self.note("device input", answers, both);
             }
-            1..=4 => {
+            4..=7 => {
                 let register = random.pick(&[1, 3, 4, 5, 5, 6, 7]);
                 let level = usize::from(both.theirs.state.level);
                 both.theirs.state.files[level][register] = programs::operand(random);
@@ -136,6 +154,11 @@ impl Tally {
                 &both,
             );
         }
+        let mut both = Both::new(start);
+        let steps = random.below(2 * LENGTH);
+        let inputs = programs::inputs(random, steps);
+        let answers = both.run_with_input(steps, &inputs);
+        self.note("run with device input", answers.map(|_| ()), &both);
         if !random.one_in(16) {
             return;
         }
@@ -149,6 +172,18 @@ impl Tally {
         self.note("a step of any state", answers, &both);
         let answers = both.write().map(|_| ());
         self.note("write of any state", answers, &both);
+        let mut both = Both::new(&damaged);
+        let answers = both.run_with_input(steps, &inputs);
+        self.note(
+            "run with device input of any state",
+            answers.map(|_| ()),
+            &both,
+        );
+        for input in [Input::Tick, Input::Typed(7), Input::ReadOut] {
+            let mut both = Both::new(&damaged);
+            let answers = both.input(input);
+            self.note("device input of any state", answers, &both);
+        }
         self.images(random, start);
     }
 
@@ -161,9 +196,10 @@ impl Tally {
         };
         image.truncate(image.len() - 3);
         for _ in 0..random.below(3) {
-            let at = random.below(24) as usize;
+            let at = random.below(CONTENTS) as usize;
             let control = CONTROL_WORDS as u16;
             let tables = TABLE_WORDS as u16;
+            let devices = DEVICE_WORDS as u16;
             image[at] = random.pick(&[
                 0,
                 1,
@@ -171,6 +207,10 @@ impl Tally {
                 3,
                 4,
                 5,
+                6,
+                devices - 1,
+                devices,
+                devices + 1,
                 control - 1,
                 control,
                 128,
@@ -182,7 +222,7 @@ impl Tally {
         }
         let answers = both.load(&image);
         self.note("load", answers, &both);
-        for words in [control::PGS_HELD, control::EXTENDED] {
+        for words in [control::PGS_HELD, control::EXTENDED, CONTROL_WORDS] {
             let answers = both.load(&older_image(start, words));
             self.note("load of an older image", answers, &both);
         }

@@ -2,7 +2,7 @@
 
 use second::random::Random;
 use second::vectors::{self, Start};
-use second::{CONTROL_WORDS, PAGE, REGISTER_WORDS, Reg, TABLE_WORDS, next_word};
+use second::{Input, PAGE, REGISTER_WORDS, Reg, STATE_WORDS, TABLE_WORDS, device, next_word};
 
 /// Instruction words of every kind: those that the generator of one-step cases has fetched.
 pub fn pool(random: &mut Random) -> Vec<u16> {
@@ -47,6 +47,7 @@ pub fn start(random: &mut Random, pool: &[u16]) -> Start {
     match random.below(8) {
         0 | 1 => window(random, &mut start),
         2 | 3 => physical(random, &mut start),
+        4 | 5 => console(random, &mut start),
         _ => {}
     }
     for file in &mut start.state.files {
@@ -124,12 +125,50 @@ fn physical(random: &mut Random, start: &mut Start) {
     }
 }
 
+/// The running level on ring 2 or 3, with T naming a device register and words for the devices ahead.
+fn console(random: &mut Random, start: &mut Start) {
+    let level = usize::from(start.state.level);
+    start.state.pcr[level] |= 2;
+    start.state.files[level][Reg::T as usize] = random.pick(&device::ALL);
+    let p = start.state.files[level][Reg::P as usize];
+    for _ in 0..16 {
+        let at = random.below(start.memory.len() as u64) as usize / PAGE * PAGE;
+        let further = usize::from(p) + random.below(8) as usize;
+        start.memory[at + further % PAGE] = match random.below(8) {
+            0 => 0o150415,
+            1 | 2 => random.pick(&[0o143604, 0o143611, 0o143622, 0o143643]),
+            _ => 0o164000 | random.pick(&device::ALL),
+        };
+    }
+}
+
+/// An input of any kind, one in eight a raise that may be refused.
+pub fn input(random: &mut Random) -> Input {
+    match random.below(8) {
+        0 => Input::Raise(random.below(17) as u16),
+        1..=3 => Input::Tick,
+        4 | 5 => Input::ReadOut,
+        _ => Input::Typed(random.word() as u8),
+    }
+}
+
+/// A list of inputs for a run of so many steps, mostly at rising steps and within them.
+pub fn inputs(random: &mut Random, steps: u64) -> Vec<(u64, Input)> {
+    let mut inputs: Vec<_> = (0..random.below(6))
+        .map(|_| (random.below(steps + 2), input(random)))
+        .collect();
+    if !random.one_in(4) {
+        inputs.sort_by_key(|(at, _)| *at);
+    }
+    inputs
+}
+
 /// A state that may be out of range.
 pub fn damage(random: &mut Random, start: &mut Start) {
     let mut words = start.state.to_words();
     let at = match random.below(3) {
         0 => 8 * random.below(16) as usize,
-        _ => REGISTER_WORDS + random.below(CONTROL_WORDS as u64) as usize,
+        _ => REGISTER_WORDS + random.below((STATE_WORDS - REGISTER_WORDS) as u64) as usize,
     };
     words[at] = match random.below(2) {
         0 => random.word(),

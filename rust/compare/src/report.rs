@@ -2,28 +2,30 @@
 
 use compare::engines::{Answers, Both};
 use second::vectors::Start;
-use second::{PAGE, REGISTER_WORDS, State, disassemble, next_word};
+use second::{FIRST_DEVICE, Input, PAGE, REGISTER_WORDS, State, disassemble, next_word};
 
-/// Steps of both from here: a call of the step or of the lent step, or a run of so many.
-#[derive(Clone, Copy)]
+/// Steps of both from here: a call of the step or of the lent step, a run of so many, or one with device input.
 pub enum Taken {
     Step,
     Lent,
     Run(u64),
+    WithInput(u64, Vec<(u64, Input)>),
 }
 
 impl Taken {
-    fn by(self, both: &mut Both) -> Result<(), Answers> {
+    /// Takes them in both, and tells how many they were.
+    pub fn by(&self, both: &mut Both) -> Result<u64, Answers> {
         match self {
-            Taken::Step => both.step(),
-            Taken::Lent => both.step_lent(),
-            Taken::Run(steps) => both.run(steps, false).map(|_| ()),
+            Taken::Step => both.step().map(|()| 1),
+            Taken::Lent => both.step_lent().map(|()| 1),
+            Taken::Run(steps) => both.run(*steps, false),
+            Taken::WithInput(steps, inputs) => both.run_with_input(*steps, inputs),
         }
     }
 }
 
 /// Whether these steps from here differ.
-pub fn differs(start: &Start, taken: Taken) -> bool {
+pub fn differs(start: &Start, taken: &Taken) -> bool {
     let mut both = Both::new(start);
     taken.by(&mut both).is_err() || !both.equal()
 }
@@ -88,8 +90,13 @@ fn zero_blocks(words: &mut [u16], block: usize, mut keep: impl FnMut(&[u16]) -> 
 /// An image that names the words that are not 0, in at most 32 entries.
 fn image(start: &Start) -> Vec<u16> {
     let words = start.state.to_words();
-    let (registers, control) = words.split_at(REGISTER_WORDS);
-    let kinds = [&start.memory, registers, control, &start.tables];
+    let kinds: [&[u16]; 5] = [
+        &start.memory,
+        &words[..REGISTER_WORDS],
+        &words[REGISTER_WORDS..FIRST_DEVICE],
+        &start.tables,
+        &words[FIRST_DEVICE..],
+    ];
     let mut gap = 0;
     loop {
         let mut entries: Vec<(u16, usize, usize)> = Vec::new();
@@ -123,13 +130,16 @@ fn image(start: &Start) -> Vec<u16> {
 }
 
 /// Prints a start from which these steps differ.
-pub fn print(start: &Start, taken: Taken) {
+pub fn print(start: &Start, taken: &Taken) {
     let mut start = start.clone();
     shrink(&mut start, |smaller| differs(smaller, taken));
     match taken {
         Taken::Step => {}
         Taken::Lent => println!("in a lent step"),
         Taken::Run(steps) => println!("in a run of {steps} steps"),
+        Taken::WithInput(steps, inputs) => {
+            println!("in a run of {steps} steps with the input {inputs:?}")
+        }
     }
     println!(
         "difference, with {} pages, from the image (octal words)",
@@ -168,11 +178,13 @@ mod tests {
         let mut start = vectors::start(&mut Random::new(7));
         start.memory[77] = 5;
         start.state.files[3][5] = 9;
+        start.state.devices.length = 3;
         shrink(&mut start, |s| {
-            s.memory[77] == 5 && s.state.files[3][5] == 9
+            s.memory[77] == 5 && s.state.files[3][5] == 9 && s.state.devices.length == 3
         });
         assert_eq!(start.memory.iter().filter(|w| **w != 0).count(), 1);
         assert!(start.tables.iter().all(|w| *w == 0));
-        assert_eq!(image(&start), [2, 1, 0, 77, 0, 1, 2, 0, 29, 0, 1, 5, 9]);
+        let entries = [3, 1, 0, 77, 0, 1, 2, 0, 29, 0, 1, 5, 0, 7, 0, 1];
+        assert_eq!(image(&start), [&entries[..], &[5, 9, 3]].concat());
     }
 }

@@ -1,4 +1,4 @@
-//! The examples of document 000, the functional description, that a machine without devices can execute.
+//! The examples of document 000, the functional description, that a machine with a clock and a terminal can execute.
 //!
 //! It prints no words: they are put together by document 002's tables of codes. Numbers that it does not print are
 //! chosen, as the physical pages of section 3.8.
@@ -28,6 +28,11 @@ pub const EXAMPLES: &[Example] = &[
     row("2.9.2.3.1", "IDENT PL13", 0o143643, &[], NO_DEVICE),
     // Computed GO TO: code 2 goes to the third of the JMPs that follow.
     row("2.9.2.3.1", "RADD SA DP", 0o146052, &[(A, 2)], &[(P, 0o103)]),
+    // LEV13 with the clock, whose code is 1: the second JMP. IDENT resets its interrupt condition.
+    program(&[0o146052, 0o124010, 0o124020], 3,
+        row("2.9.2.3.1", "IDENT PL13; RADD SA DP; JMP *10; JMP *20", 0o143643,
+            &[(LEVEL, 13), (PID, 0o20000), (CLOCK_ENABLED, 1), (CLOCK_READY, 1), (CLOCK_ASKS, 1)],
+            &[(of(13, A), 1), (CLOCK_ASKS, 0), (of(13, P), 0o123)])),
 
     // LEV14 with interrupt code 3, page fault: the fourth JMP. TRA IIC resets it.
     program(&[0o146052, 0o124010, 0o124020, 0o124030, 0o124040], 3,
@@ -111,17 +116,44 @@ pub const EXAMPLES: &[Example] = &[
           (Table(0o220), 0o161000), (Table(0o314), 0o162001)],
         &[(Interrupt, 2), (IID, 0o4), (PGS, 0o314), (HELD, 1), (Table(0o220), 0o165000)]),
 
-    // The teletype's routine, but for the device.
+    // The teletype's routine. Bit 2, "activate device", does nothing here; the rest of the control word is 0.
     row("6.5.2", "SAA 4", 0o170404, &[], &[(A, 4)]),
-    row("6.5.2", "IOX 303", 0o164303, &[], NO_DEVICE),
+    row("6.5.2", "IOX 303", 0o164303,
+        &[(A, 4), (INPUT_ENABLED, 1), (LENGTH, 3)], &[(INPUT_ENABLED, 0), (LENGTH, 0)]),
+    // Bit 3 of the status: the data register has a character; and the output one is empty. Bit 0 is the control's.
+    row("6.5.2", "IOX 302", 0o164302, &[(INPUT_UNREAD, 1)], &[(A, 0o10)]),
+    row("6.5.2", "IOX 302", 0o164302, &[(INPUT_ENABLED, 1)], &[(A, 1)]),
+    row("6.5.2", "IOX 300", 0o164300, &[(INPUT_UNREAD, 1), (INPUT, 0o101)], &[(A, 0o101), (INPUT_UNREAD, 0)]),
+    row("6.5.2", "IOX 306", 0o164306, &[], &[(A, 0o10)]),
+    row("6.5.2", "IOX 306", 0o164306, &[(OUTPUT_ENABLED, 1), (OUTPUT_WAITS, 1)], &[(A, 1)]),
+    row("6.5.2", "IOX 305", 0o164305, &[(A, 0o101)], &[(OUTPUT_WAITS, 1), (OUTPUT, 0o101)]),
+    row("6.5.2", "IOX 307", 0o164307, &[(A, 4), (OUTPUT_ENABLED, 1), (OUTPUT_WAITS, 1)], &[(OUTPUT_ENABLED, 0)]),
     row("6.5.2", "BSKP ONE 30 DA", 0o175235, &[(A, 0o10)], &[(P, 0o102)]),
     row("6.5.2", "BSKP ONE 30 DA", 0o175235, &[(A, 0o177767)], &[]),
     row("6.5.2", "JMP * -2", 0o124376, &[], &[(P, 0o76)]),
     row("6.5.2", "COPY SA DX", 0o146157, &[(A, 0o101)], &[(X, 0o101)]),
     row("6.5.2", "COPY SX DA", 0o146175, &[(X, 0o101)], &[(A, 0o101)]),
+    // Bit 0 enables: a character that was typed before gives its interrupt now. Levels 10 and 12 identify theirs; PID
+    // stays until WAIT.
+    row("6.7.5", "IOX 303", 0o164303,
+        &[(A, 7), (INPUT_UNREAD, 1)], &[(INPUT_ENABLED, 1), (INPUT_ASKS, 1), (PID, 0o10000)]),
+    row("6.7.5", "IOX 307", 0o164307, &[(A, 7)], &[(OUTPUT_ENABLED, 1), (OUTPUT_ASKS, 1), (PID, 0o2000)]),
+    row("6.7.5", "IDENT PL10", 0o143604,
+        &[(PID, 0o2000), (OUTPUT_ENABLED, 1), (OUTPUT_ASKS, 1)], &[(A, 1), (OUTPUT_ASKS, 0)]),
+    row("6.7.5", "IDENT PL12", 0o143622,
+        &[(PID, 0o10000), (INPUT_ENABLED, 1), (INPUT_UNREAD, 1), (INPUT_ASKS, 1)], &[(A, 1), (INPUT_ASKS, 0)]),
     // An interrupt to level 1; levels 0, 1, 10 and 12 are enabled.
     program(&[0o150306], 3, row("6.7.5", "SAA 2; MST PID", 0o170402,
         &[(ION, 1), (PIE, 0o12003)], &[(A, 2), (PID, 2), (P, 0o102), (LEVEL, 1), (PVL, 0)])),
+
+    // The clock's registers; bit 13 clears ready, bit 0 enables. The 20 ms of register 11 are the host's.
+    row("6.9.2", "IOX 10", 0o164010, &[(CLOCK_READY, 1)], &[(A, 0)]),
+    row("6.9.2", "IOX 11", 0o164011, &[(CLOCK_READY, 1)], &[]),
+    row("6.9.2", "IOX 12", 0o164012, &[(CLOCK_READY, 1)], &[(A, 0o10)]),
+    row("6.9.2", "IOX 12", 0o164012, &[(CLOCK_ENABLED, 1), (CLOCK_READY, 1)], &[(A, 0o11)]),
+    row("6.9.2", "IOX 13", 0o164013,
+        &[(A, 1), (CLOCK_READY, 1)], &[(CLOCK_ENABLED, 1), (CLOCK_ASKS, 1), (PID, 0o20000)]),
+    row("6.9.2", "IOX 13", 0o164013, &[(A, 0o20001), (CLOCK_READY, 1)], &[(CLOCK_ENABLED, 1), (CLOCK_READY, 0)]),
 
     // Level 12 to 042562 and on, for X = 042562.
     row("9.1.2", "SRB 140", 0o152542,

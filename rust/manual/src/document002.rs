@@ -169,7 +169,7 @@ pub const EXAMPLES: &[Example] = &[
     // To a device, from a device.
     row(122, "IOX 1", 0o164001, &[], NO_DEVICE),
     row(122, "IOX 0", 0o164000, &[], NO_DEVICE),
-    // The four codes. Without a device A is unchanged.
+    // The four codes. Without a device that asks A is unchanged.
     row(125, "IDENT PL10", 0o143604, &[], NO_DEVICE),
     row(125, "IDENT PL11", 0o143611, &[], NO_DEVICE),
     row(125, "IDENT PL12", 0o143622, &[], NO_DEVICE),

@@ -19,10 +19,12 @@ use std::fmt;
 /// Where an example's instructions stand in memory.
 pub const HERE: u16 = 0o100;
 
-/// Registers of all levels, and control words: the order is that of an image.
+/// Registers of all levels, control words, and the devices' words: the order is that of the host's state.
 const REGISTERS: usize = 128;
 const CONTROL: usize = 28;
-const STATE: usize = REGISTERS + CONTROL;
+const DEVICES: usize = 12;
+const FIRST_DEVICE: usize = REGISTERS + CONTROL;
+const STATE: usize = FIRST_DEVICE + DEVICES;
 const TABLES: usize = 512;
 
 const P: usize = 2;
@@ -31,7 +33,7 @@ const LEVEL: usize = REGISTERS;
 /// One of the words that an example names.
 #[derive(Clone, Copy, Debug)]
 pub enum Place {
-    /// Register 8 * level + number, or control word 128 + number.
+    /// Register 8 * level + number, control word 128 + number, or device word 156 + number.
     State(usize),
     Table(usize),
     Memory(usize),
@@ -92,7 +94,7 @@ pub fn examples() -> impl Iterator<Item = &'static Example> {
 /// A machine in the words that all engines know.
 #[derive(Clone, Debug)]
 pub struct Machine {
-    /// Registers and control words in image order.
+    /// Registers, control words and devices' words, each in image order.
     pub state: [u16; STATE],
     pub tables: Vec<u16>,
     pub memory: Vec<u16>,
@@ -101,8 +103,8 @@ pub struct Machine {
 }
 
 impl Machine {
-    /// Level 0 with interrupts and paging off, and 32 pages of memory. Flags and control words are 0, every level is to
-    /// go on at `HERE`, and every other word tells its index.
+    /// Level 0 with interrupts and paging off, and 32 pages of memory. Flags, control words and devices are 0, every
+    /// level is to go on at `HERE`, and every other word tells its index.
     fn new() -> Machine {
         let mut state = [0; STATE];
         for (index, word) in (0..).zip(&mut state[..REGISTERS]) {
@@ -144,7 +146,8 @@ fn name(index: usize) -> String {
     const FIRST_MEMORY: usize = FIRST_TABLE + TABLES;
     match index {
         0..REGISTERS => format!("{} of level {}", NAMES[index % 8], index / 8),
-        REGISTERS..STATE => format!("control word {}", index - REGISTERS),
+        REGISTERS..FIRST_DEVICE => format!("control word {}", index - REGISTERS),
+        FIRST_DEVICE..STATE => format!("device word {}", index - FIRST_DEVICE),
         STATE => "the interrupt".to_string(),
         FIRST_TABLE..FIRST_MEMORY => format!("page table word {:03o}", index - FIRST_TABLE),
         _ => format!("memory word {:06o}", index - FIRST_MEMORY),
@@ -243,6 +246,7 @@ mod tests {
             "document 002, page 19, STA *2: memory word 000102 is 100102, not 000777",
             "document 002, page 118, MST PIE: control word 5 is 000001, not 000141",
             "document 002, page 125, IDENT PL13: the interrupt is 000011, not 000007",
+            "document 000, section 6.5.2, IOX 305: device word 11 is 000000, not 000101",
             "document 000, section 3.8, LDA ,B: page table word 220 is 161000, not 165000",
         ] {
             assert!(lines.contains(line), "{line}");

@@ -26,6 +26,20 @@ pub const HELD: Place = State(154);
 /// 1 in extended mode (document 02, card 4).
 pub const EXTENDED: Place = State(155);
 
+/// The devices' words (document 02, card 1).
+pub const CLOCK_ENABLED: Place = State(156);
+pub const CLOCK_READY: Place = State(157);
+pub const CLOCK_ASKS: Place = State(158);
+pub const INPUT_ENABLED: Place = State(159);
+pub const INPUT_UNREAD: Place = State(160);
+pub const INPUT_ASKS: Place = State(161);
+pub const INPUT: Place = State(162);
+pub const LENGTH: Place = State(163);
+pub const OUTPUT_ENABLED: Place = State(164);
+pub const OUTPUT_WAITS: Place = State(165);
+pub const OUTPUT_ASKS: Place = State(166);
+pub const OUTPUT: Place = State(167);
+
 /// A register of another level.
 pub const fn of(level: usize, register: Place) -> Place {
     match register {
@@ -58,5 +72,5 @@ pub const fn low(number: i32) -> u16 {
 
 /// Document 01 has no floating, decimal and SINTRAN instructions so far, and not all internal registers.
 pub const ILLEGAL: Words = &[(Interrupt, 4), (IID, 0o20)];
-/// Document 01 has no device.
+/// No device answers.
 pub const NO_DEVICE: Words = &[(Interrupt, 7), (IID, 0o200)];

@@ -1,4 +1,5 @@
-//! Answers: internal interrupts, refusals and the reasons a run ends.
+//! Answers: internal interrupts, refusals, the reasons a run ends, and what device
+//! input is told.
 
 /// Internal interrupts by number. 8 (parity) and 10 (power) never occur here.
 #[derive(Clone, Copy, Debug, PartialEq, Eq)]
@@ -45,6 +46,8 @@ pub enum Refusal {
     View = 9,
     /// Lent output too short.
     Short = 10,
+    /// A character while the last one is unread.
+    Unread = 11,
     /// Not zero, and a short form with exponent field 0 or a long one with the
     /// mantissa's top bit 0.
     Form = 15,
@@ -76,6 +79,30 @@ impl Reason {
             Reason::Level => "level",
             Reason::Spent => "spent",
             Reason::Interrupt => "interrupt",
+        }
+    }
+}
+
+/// What a device input is told.
+#[derive(Clone, Copy, Debug, PartialEq, Eq)]
+pub enum Told {
+    /// A raise, a tick or a character that was taken.
+    Done,
+    Refused(Refusal),
+    /// The character read out.
+    Character(u8),
+    /// No character waits to be read out.
+    None,
+}
+
+impl Told {
+    /// As one word: 0, the refusal's number, the character, or 256 for none.
+    pub fn word(self) -> u16 {
+        match self {
+            Told::Done => 0,
+            Told::Refused(refusal) => refusal.number(),
+            Told::Character(character) => character.into(),
+            Told::None => 256,
         }
     }
 }

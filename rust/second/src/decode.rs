@@ -312,7 +312,9 @@ pub enum Instr {
         device: u16,
     },
     Ioxt,
-    Ident,
+    Ident {
+        code: u16,
+    },
     Illegal,
 }
 
@@ -341,7 +343,7 @@ impl Instr {
                 | Physical { .. }
                 | Iox { .. }
                 | Ioxt
-                | Ident
+                | Ident { .. }
         )
     }
 }
@@ -416,7 +418,7 @@ fn skips(word: u16) -> Instr {
         0o26 => Instr::Sbyt,
         0o32 => Instr::Mix3,
         0o33 => physical(word),
-        0o36 => Instr::Ident,
+        0o36 => Instr::Ident { code: word & 0o77 },
         code if code & 3 == 0 => Instr::Skip {
             cond: skip_cond(word),
             src,

@@ -93,7 +93,7 @@ pub fn disassemble(word: u16) -> String {
         Instr::Physical { op, disp } => format!("{} {:o}", physical_name(op), disp * 8),
         Instr::Iox { device } => format!("IOX {device:o}"),
         Instr::Ioxt => "IOXT".to_string(),
-        Instr::Ident => match word & 0o77 {
+        Instr::Ident { code } => match code {
             0o04 => "IDENT PL10".to_string(),
             0o11 => "IDENT PL11".to_string(),
             0o22 => "IDENT PL12".to_string(),

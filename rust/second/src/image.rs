@@ -2,13 +2,15 @@
 
 use crate::TABLE_WORDS;
 use crate::answer::Refusal;
-use crate::machine::check_sizes;
-use crate::state::{CONTROL_WORDS, REGISTER_WORDS, STATE_WORDS, State};
+use crate::devices::DEVICE_WORDS;
+use crate::machine::{check_machine, check_sizes};
+use crate::state::{CONTROL_WORDS, FIRST_DEVICE, REGISTER_WORDS, STATE_WORDS, State};
 use std::ops::Range;
 
 /// Words of a written image beside memory.
-pub const IMAGE_EXTRA: usize = 1 + 4 * ENTRY + STATE_WORDS + TABLE_WORDS;
+pub const IMAGE_EXTRA: usize = 1 + KINDS * ENTRY + STATE_WORDS + TABLE_WORDS;
 
+const KINDS: usize = 5;
 const ENTRY: usize = 5;
 const MAX_ENTRIES: usize = 32;
 
@@ -18,6 +20,7 @@ enum Kind {
     Registers,
     Control,
     Tables,
+    Devices,
 }
 
 impl Kind {
@@ -27,6 +30,7 @@ impl Kind {
             2 => Ok(Kind::Registers),
             3 => Ok(Kind::Control),
             4 => Ok(Kind::Tables),
+            5 => Ok(Kind::Devices),
             _ => Err(Refusal::Kind),
         }
     }
@@ -58,6 +62,7 @@ fn contents(image: &[u16], memory_size: usize) -> Result<(Vec<Entry>, &[u16]), R
             Kind::Registers => REGISTER_WORDS,
             Kind::Control => CONTROL_WORDS,
             Kind::Tables => TABLE_WORDS,
+            Kind::Devices => DEVICE_WORDS,
         };
         let start = double(words[1], words[2]);
         let end = start + double(words[3], words[4]);
@@ -93,15 +98,13 @@ pub fn load(image: &[u16], memory: &mut [u16], tables: &mut [u16]) -> Result<Sta
     for entry in &entries {
         let (body, later) = rest.split_at(entry.words.len());
         rest = later;
-        match entry.kind {
-            Kind::Registers => {
-                state_words[..REGISTER_WORDS][entry.words.clone()].copy_from_slice(body)
-            }
-            Kind::Control => {
-                state_words[REGISTER_WORDS..][entry.words.clone()].copy_from_slice(body)
-            }
-            Kind::Memory | Kind::Tables => {}
-        }
+        let first = match entry.kind {
+            Kind::Registers => 0,
+            Kind::Control => REGISTER_WORDS,
+            Kind::Devices => FIRST_DEVICE,
+            Kind::Memory | Kind::Tables => continue,
+        };
+        state_words[first..][entry.words.clone()].copy_from_slice(body);
     }
     let state = State::from_words(&state_words);
     if !state.in_range() {
@@ -117,13 +120,13 @@ pub fn load(image: &[u16], memory: &mut [u16], tables: &mut [u16]) -> Result<Sta
         match entry.kind {
             Kind::Memory => memory[entry.words].copy_from_slice(body),
             Kind::Tables => tables[entry.words].copy_from_slice(body),
-            Kind::Registers | Kind::Control => {}
+            Kind::Registers | Kind::Control | Kind::Devices => {}
         }
     }
     Ok(state)
 }
 
-/// Writes an image of four full entries, answering its length in words. Words
+/// Writes an image of five full entries, answering its length in words. Words
 /// of `out` past the image stay. Refuses 1, 2, 10.
 pub fn write(
     state: &State,
@@ -131,20 +134,18 @@ pub fn write(
     tables: &[u16],
     out: &mut [u16],
 ) -> Result<usize, Refusal> {
-    check_sizes(memory, tables)?;
-    if !state.in_range() {
-        return Err(Refusal::State);
-    }
+    check_machine(state, memory, tables)?;
     let length = memory.len() + IMAGE_EXTRA;
     if out.len() < length {
         return Err(Refusal::Short);
     }
     let words = state.to_words();
-    let bodies = [
+    let bodies: [&[u16]; KINDS] = [
         memory,
         &words[..REGISTER_WORDS],
-        &words[REGISTER_WORDS..],
+        &words[REGISTER_WORDS..FIRST_DEVICE],
         tables,
+        &words[FIRST_DEVICE..],
     ];
     out[0] = bodies.len() as u16;
     let mut at = 1;

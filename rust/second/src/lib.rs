@@ -1,7 +1,7 @@
 //! Second engine for the ND-110 of the park master.
 //!
-//! Written from document 01, the rulings, document 002 (instruction set) and
-//! document 000 (paging and interrupts). `NOTES.md` lists the choices where
+//! Written from documents 01 and 02, the rulings, document 002 (instruction set)
+//! and document 000 (paging, interrupts, devices). `NOTES.md` lists the choices where
 //! these leave something open.
 
 pub mod additions;
@@ -10,10 +10,12 @@ mod answer;
 mod arithmetic;
 pub mod cases;
 mod decode;
+mod devices;
 mod disasm;
 mod execute;
 pub mod floating;
 mod image;
+mod input;
 mod machine;
 mod paging;
 pub mod random;
@@ -23,15 +25,17 @@ mod step;
 mod system;
 pub mod vectors;
 
-pub use answer::{Interrupt, Reason, Refusal};
+pub use answer::{Interrupt, Reason, Refusal, Told};
 pub use decode::{
     AddOne, BitOp, Instr, JumpCond, Logic, MemOp, Mode, PhysicalOp, Reg, ShiftKind, ShiftReg,
     SkipCond, Transfer, decode,
 };
+pub use devices::{DEVICE_NAMES, DEVICE_WORDS, Devices, device};
 pub use disasm::disassemble;
 pub use image::{IMAGE_EXTRA, Target, load, view, view_number, write};
-pub use state::{CONTROL_WORDS, REGISTER_WORDS, STATE_WORDS, State, control, flag};
-pub use step::{next_word, raise, run, step};
+pub use input::{Input, Session, raise, read_out, run_with_input, tick, type_character};
+pub use state::{CONTROL_WORDS, FIRST_DEVICE, REGISTER_WORDS, STATE_WORDS, State, control, flag};
+pub use step::{next_word, run, step};
 
 /// Words in a page.
 pub const PAGE: usize = 1024;

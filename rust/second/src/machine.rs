@@ -21,18 +21,25 @@ pub(crate) fn check_sizes(memory: &[u16], tables: &[u16]) -> Result<(), Refusal>
     }
 }
 
+/// Refusals 1 and 2.
+pub(crate) fn check_machine(state: &State, memory: &[u16], tables: &[u16]) -> Result<(), Refusal> {
+    check_sizes(memory, tables)?;
+    if state.in_range() {
+        Ok(())
+    } else {
+        Err(Refusal::State)
+    }
+}
+
 impl<'a> Machine<'a> {
-    /// Refusals 1 and 2 of step and run.
+    /// Refuses 1 and 2.
     pub fn new(
         state: &'a mut State,
         memory: &'a mut [u16],
         tables: &'a mut [u16],
     ) -> Result<Machine<'a>, Refusal> {
-        check_sizes(memory, tables)?;
+        check_machine(state, memory, tables)?;
         let tables = tables.try_into().map_err(|_| Refusal::Size)?;
-        if !state.in_range() {
-            return Err(Refusal::State);
-        }
         Ok(Machine {
             state,
             memory,

@@ -1,6 +1,7 @@
-//! Registers of the sixteen levels and the control words.
+//! Registers of the sixteen levels, the control words, and the devices' words.
 
 use crate::decode::Reg;
+use crate::devices::{DEVICE_WORDS, Devices};
 
 /// Flags of STS.
 pub mod flag {
@@ -57,7 +58,9 @@ pub mod control {
 
 pub const REGISTER_WORDS: usize = 128;
 pub const CONTROL_WORDS: usize = control::WORDS;
-pub const STATE_WORDS: usize = REGISTER_WORDS + CONTROL_WORDS;
+/// Where the devices' words begin in a state.
+pub const FIRST_DEVICE: usize = REGISTER_WORDS + CONTROL_WORDS;
+pub const STATE_WORDS: usize = FIRST_DEVICE + DEVICE_WORDS;
 
 /// Bits in use: IID and IIE 1 to 10; PCR 0-1, 7-8, 9-10; PGS 15, 14, 7-0.
 pub(crate) const INTERNAL_BITS: u16 = 0o003776;
@@ -85,6 +88,7 @@ pub struct State {
     pub pgs_held: u16,
     /// 1 in extended mode, with physical addresses of 24 bits; 0 in 19-bit mode.
     pub extended: u16,
+    pub devices: Devices,
 }
 
 impl State {
@@ -92,11 +96,14 @@ impl State {
         State::default()
     }
 
-    /// All words in image order: the registers, then the control words.
+    /// All words: the registers, the control words and the devices' words, each
+    /// in image order.
     pub fn to_words(&self) -> [u16; STATE_WORDS] {
         let mut words = [0; STATE_WORDS];
-        let (files, control) = words.split_at_mut(REGISTER_WORDS);
+        let (files, rest) = words.split_at_mut(REGISTER_WORDS);
+        let (control, devices) = rest.split_at_mut(CONTROL_WORDS);
         files.copy_from_slice(self.files.as_flattened());
+        devices.copy_from_slice(&self.devices.to_words());
         control[control::LEVEL] = self.level;
         control[control::INTERRUPTS_ON] = self.interrupts_on;
         control[control::PAGING_ON] = self.paging_on;
@@ -113,11 +120,13 @@ impl State {
         words
     }
 
-    /// The state of words in image order, in range or not.
+    /// The state of words in this order, in range or not.
     pub fn from_words(words: &[u16; STATE_WORDS]) -> State {
         let mut state = State::new();
-        let (files, control) = words.split_at(REGISTER_WORDS);
+        let (files, rest) = words.split_at(REGISTER_WORDS);
+        let (control, devices) = rest.split_at(CONTROL_WORDS);
         state.files.as_flattened_mut().copy_from_slice(files);
+        state.devices = Devices::from_words(devices);
         state.level = control[control::LEVEL];
         state.interrupts_on = control[control::INTERRUPTS_ON];
         state.paging_on = control[control::PAGING_ON];
@@ -148,6 +157,7 @@ impl State {
             && self.pcr.iter().all(|pcr| pcr & !PCR_BITS == 0)
             && self.pgs_held <= 1
             && self.extended <= 1
+            && self.devices.in_range()
     }
 
     /// Register of the running level.

@@ -1,8 +1,8 @@
-//! One step, runs, and raise.
+//! One step, and runs.
 
 use crate::answer::{Interrupt, Reason, Refusal};
 use crate::decode::Reg;
-use crate::machine::{Machine, check_sizes};
+use crate::machine::Machine;
 use crate::paging::{Access, Table};
 use crate::state::State;
 
@@ -23,6 +23,27 @@ impl Machine<'_> {
             Err(interrupt) => {
                 self.state.interrupt(interrupt.number());
                 Some(interrupt)
+            }
+        }
+    }
+
+    /// Goes on from `taken` steps to `steps`, if these are more: through, or to the
+    /// first interrupt. Answers the steps taken in all and why it ended.
+    pub fn run(&mut self, mut taken: u64, steps: u64, to_first_interrupt: bool) -> (u64, Reason) {
+        loop {
+            if self.state.stopped != 0 {
+                return (taken, Reason::Stopped);
+            }
+            if to_first_interrupt && self.state.change_due() {
+                return (taken, Reason::Level);
+            }
+            if taken >= steps {
+                return (taken, Reason::Spent);
+            }
+            let interrupt = self.step();
+            taken += 1;
+            if to_first_interrupt && interrupt.is_some() {
+                return (taken, Reason::Interrupt);
             }
         }
     }
@@ -56,39 +77,7 @@ pub fn run(
     steps: u64,
     to_first_interrupt: bool,
 ) -> Result<(u64, Reason), Refusal> {
-    let mut machine = Machine::new(state, memory, tables)?;
-    let mut taken = 0;
-    loop {
-        if machine.state.stopped != 0 {
-            return Ok((taken, Reason::Stopped));
-        }
-        if to_first_interrupt && machine.state.change_due() {
-            return Ok((taken, Reason::Level));
-        }
-        if taken == steps {
-            return Ok((taken, Reason::Spent));
-        }
-        let interrupt = machine.step();
-        taken += 1;
-        if to_first_interrupt && interrupt.is_some() {
-            return Ok((taken, Reason::Interrupt));
-        }
-    }
-}
-
-/// A device raises a level: its PID bit is set. Refuses 1, 2, 3.
-pub fn raise(state: &mut State, memory: &[u16], tables: &[u16], level: u16) -> Result<(), Refusal> {
-    check_sizes(memory, tables)?;
-    if !state.in_range() {
-        return Err(Refusal::State);
-    }
-    match level {
-        10..=13 | 15 => {
-            state.pid |= 1 << level;
-            Ok(())
-        }
-        _ => Err(Refusal::Level),
-    }
+    Ok(Machine::new(state, memory, tables)?.run(0, steps, to_first_interrupt))
 }
 
 /// The word the next step would fetch, for tracing: `None` if that step is no

@@ -69,7 +69,12 @@ impl Machine<'_> {
                 self.store(place, self.get(Reg::T));
             }
             Instr::Physical { op, disp } => self.physical_transfer(op, disp)?,
-            Instr::Iox { .. } | Instr::Ioxt | Instr::Ident => return Err(Interrupt::NoDevice),
+            Instr::Iox { device } => self.device_transfer(device)?,
+            Instr::Ioxt => self.device_transfer(self.get(Reg::T))?,
+            Instr::Ident { code } => {
+                let code = self.state.identify(code).ok_or(Interrupt::NoDevice)?;
+                self.set(Reg::A, code);
+            }
             // `perform` hands over privileged instructions only.
             _ => return Err(Interrupt::Illegal),
         }
@@ -152,6 +157,20 @@ impl Machine<'_> {
             self.store(place, word);
         }
         Ok(())
+    }
+
+    /// A device register, by its whole address: an even one is read into A, an odd
+    /// one is given A.
+    #[cfg_attr(feature = "inlined", inline(always))]
+    fn device_transfer(&mut self, address: u16) -> Result<(), Interrupt> {
+        let a = self.get(Reg::A);
+        let answered = if address.is_multiple_of(2) {
+            let word = self.state.read_register(address);
+            word.map(|word| self.set(Reg::A, word))
+        } else {
+            self.state.write_register(address, a)
+        };
+        answered.ok_or(Interrupt::NoDevice)
     }
 
     #[cfg_attr(feature = "inlined", inline(always))]

@@ -2,9 +2,12 @@
 
 use crate::answer::Interrupt;
 use crate::decode::{Instr, Reg, decode};
+use crate::devices::{DEVICE_WORDS, Devices, MOST_DEVICE_WORDS, device};
 use crate::image::{IMAGE_EXTRA, write};
 use crate::random::Random;
-use crate::state::{CONTROL_WORDS, INTERNAL_BITS, PCR_BITS, PGS_BITS, REGISTER_WORDS, State};
+use crate::state::{
+    CONTROL_WORDS, FIRST_DEVICE, INTERNAL_BITS, PCR_BITS, PGS_BITS, REGISTER_WORDS, State,
+};
 use crate::step::step;
 use crate::{PAGE, TABLE_WORDS};
 use std::fmt::Write as _;
@@ -18,7 +21,7 @@ pub struct Start {
 }
 
 /// Base and mask of the bits that vary, one for each kind of instruction.
-const CLASSES: [(u16, u16); 97] = [
+const CLASSES: [(u16, u16); 107] = [
     (0o000000, 0o003777), // STZ
     (0o004000, 0o003777),
     (0o010000, 0o003777),
@@ -64,6 +67,9 @@ const CLASSES: [(u16, u16); 97] = [
     (0o143300, 0o000077),
     (0o143300, 0o000077),
     (0o143600, 0o000077), // IDENT
+    (0o143604, 0o000000), // PL10
+    (0o143622, 0o000000), // PL12
+    (0o143643, 0o000000), // PL13
     (0o144000, 0o000377), // SWAP
     (0o144400, 0o000377), // RAND
     (0o145000, 0o000377), // REXO
@@ -94,6 +100,8 @@ const CLASSES: [(u16, u16); 97] = [
     (0o150406, 0o000001),
     (0o150410, 0o000002), // PON, PION
     (0o150415, 0o000002), // IOXT, DEPO
+    (0o150415, 0o000000), // IOXT
+    (0o150415, 0o000000),
     (0o150416, 0o000000), // EXAM
     (0o150417, 0o000000), // DEPO
     (0o150400, 0o000377), // the rest of their page
@@ -113,6 +121,11 @@ const CLASSES: [(u16, u16); 97] = [
     (0o154000, 0o003777), // shifts, bit 6 too
     (0o160000, 0o003777), // illegal
     (0o164000, 0o003777), // IOX
+    (0o164010, 0o000003), // the clock
+    (0o164010, 0o000003),
+    (0o164300, 0o000007), // the terminal
+    (0o164300, 0o000007),
+    (0o164300, 0o000007),
     (0o170000, 0o003777), // arguments
     (0o174000, 0o003777), // bits
     (0o174000, 0o003777),
@@ -145,6 +158,7 @@ pub fn start(random: &mut Random) -> Start {
     }
 
     control(random, &mut start.state);
+    start.state.devices = devices(random);
     tables(random, &mut start, &live, pages);
     let paging = start.state.paging_on == 1;
     let physical = (pages * PAGE) as u16;
@@ -204,6 +218,9 @@ pub fn start(random: &mut Random) -> Start {
         && !random.one_in(8)
     {
         physical_address(random, &mut start, disp);
+    }
+    if executed == Instr::Ioxt && !random.one_in(8) {
+        start.state.files[level][Reg::T as usize] = random.pick(&device::ALL);
     }
     if matches!(decode(word), Instr::Rdiv { .. }) && random.one_in(2) {
         // A dividend whose quotient may fit.
@@ -284,6 +301,12 @@ fn control(random: &mut Random, state: &mut State) {
             state.pie |= 1 << state.level;
         }
     }
+}
+
+/// Devices in any of their states.
+pub fn devices(random: &mut Random) -> Devices {
+    let words = MOST_DEVICE_WORDS.map(|most| random.below(u64::from(most) + 1) as u16);
+    Devices::from_words(&words)
 }
 
 /// Entries of the live pages in all four tables, in the form of the other mode
@@ -479,17 +502,28 @@ pub fn image(start: &Start) -> Vec<u16> {
     image
 }
 
-/// The same as it was written before extended mode: fewer control words, 26
-/// before PGS was held and then 27, and page tables of 256.
+/// The same as it was written before there were devices: 28 control words and
+/// page tables of 512; before extended mode 26 or, with PGS held, 27 control words
+/// and page tables of 256.
 pub fn older_image(start: &Start, control_words: usize) -> Vec<u16> {
-    const OLDER_TABLES: usize = TABLE_WORDS / 2;
-    let mut image = image(start);
-    // Lengths of the third and the fourth entry, low words.
-    image[15] = control_words as u16;
-    image[20] = OLDER_TABLES as u16;
-    let tables = image.len() - TABLE_WORDS;
-    image.truncate(tables + OLDER_TABLES);
-    image.drain(tables - CONTROL_WORDS + control_words..tables);
+    let tables = match control_words {
+        CONTROL_WORDS => TABLE_WORDS,
+        _ => TABLE_WORDS / 2,
+    };
+    let words = start.state.to_words();
+    let (registers, rest) = words.split_at(REGISTER_WORDS);
+    let bodies = [
+        &start.memory,
+        registers,
+        &rest[..control_words],
+        &start.tables[..tables],
+    ];
+    let mut image = vec![bodies.len() as u16];
+    for (kind, body) in (1..).zip(bodies) {
+        let length = body.len();
+        image.extend([kind, 0, 0, (length >> 16) as u16, length as u16]);
+    }
+    image.extend(bodies.concat());
     image
 }
 
@@ -505,9 +539,11 @@ pub fn case_text(number: u64, start: &Start) -> String {
     let mut text = String::new();
     let words = start.state.to_words();
     let _ = writeln!(text, "case {number} pages {}", start.memory.len() / PAGE);
-    let (registers, control) = words.split_at(REGISTER_WORDS);
+    let (registers, rest) = words.split_at(REGISTER_WORDS);
+    let (control, devices) = rest.split_at(CONTROL_WORDS);
     sparse(&mut text, "reg", registers, &[0; REGISTER_WORDS]);
     sparse(&mut text, "ctl", control, &[0; CONTROL_WORDS]);
+    sparse(&mut text, "dev", devices, &[0; DEVICE_WORDS]);
     sparse(
         &mut text,
         "mem",
@@ -518,7 +554,8 @@ pub fn case_text(number: u64, start: &Start) -> String {
     let _ = writeln!(text, "int {interrupt}");
     let words = end.state.to_words();
     full(&mut text, "reg=", &words[..REGISTER_WORDS]);
-    full(&mut text, "ctl=", &words[REGISTER_WORDS..]);
+    full(&mut text, "ctl=", &words[REGISTER_WORDS..FIRST_DEVICE]);
+    full(&mut text, "dev=", &words[FIRST_DEVICE..]);
     sparse(&mut text, "mem+", &end.memory, &start.memory);
     sparse(&mut text, "tab+", &end.tables, &start.tables);
     text.push_str("end\n");

@@ -68,11 +68,27 @@ fn vectors_reach_everything() {
                 }
                 format!("{op:?}")
             }
+            Instr::Iox { device } => {
+                seen.insert(format!("IOX {device:o} = {number}"));
+                "Iox".into()
+            }
+            Instr::Ioxt => {
+                seen.insert(format!("IOXT {:o} = {number}", s.reg(Reg::T)));
+                "Ioxt".into()
+            }
+            Instr::Ident { code } => {
+                seen.insert(format!("IDENT {code:o} = {number}"));
+                "Ident".into()
+            }
             other => {
                 let text = format!("{other:?}");
                 text.split([' ', '(']).next().unwrap_or("").to_string()
             }
         };
+        let (old, new) = (s.devices.to_words(), end.state.devices.to_words());
+        for (index, (old, new)) in old.iter().zip(new).enumerate() {
+            seen.insert(format!("device word {index} from {old} to {new}"));
+        }
         seen.insert(format!("{name} = {number}"));
         seen.insert(format!("{number} in mode {}", s.extended));
         let changed = |(new, old): (&u16, &u16)| (new ^ old) & !0o014000 != 0;
@@ -148,6 +164,19 @@ fn vectors_reach_everything() {
     for name in ["Iox", "Ioxt", "Ident"] {
         wanted.push(format!("{name} = 6"));
         wanted.push(format!("{name} = 7"));
+    }
+    for address in device::ALL {
+        wanted.push(format!("IOX {address:o} = 0"));
+        wanted.push(format!("IOXT {address:o} = 0"));
+    }
+    for code in ["4", "22", "43"] {
+        wanted.push(format!("IDENT {code} = 0"));
+        wanted.push(format!("IDENT {code} = 7"));
+    }
+    // Every flip-flop is set and reset.
+    for asks in [2, 5, 10] {
+        wanted.push(format!("device word {asks} from 0 to 1"));
+        wanted.push(format!("device word {asks} from 1 to 0"));
     }
     for name in ["Srb", "Lrb", "Lbyt", "Sbyt", "Exr"] {
         for number in [2, 3, 9] {

@@ -32,7 +32,7 @@ fn ranges() {
         assert_eq!(decode(0o142200 + low), Instr::Lbyt);
         assert_eq!(decode(0o142600 + low), Instr::Sbyt);
         assert_eq!(decode(0o143200 + low), Instr::Mix3);
-        assert_eq!(decode(0o143600 + low), Instr::Ident);
+        assert_eq!(decode(0o143600 + low), Instr::Ident { code: low });
         assert!(matches!(decode(0o141200 + low), Instr::Rmpy { .. }));
     }
     for word in 0o151000..=0o151377 {

@@ -234,6 +234,29 @@ fn turn_in_extended_mode() {
 }
 
 #[test]
+fn turn_with_devices() {
+    // IOX 300; COPY SA DT; IOX 306; WAIT, with A from the image or 0.
+    let program = [0o164300, 0o146156, 0o164306, 0o151000];
+    let expected = |a: &str, t: &str| {
+        format!(
+            "ended stopped\nsteps 4\nlevel 0\nSTS 000000\nD 000000\nP 000004\n\
+             B 000000\nL 000000\nA {a}\nT {t}\nX 000000\n"
+        )
+    };
+    // No kind 5: no character was typed, and output is ready.
+    let mut image = vec![1, 1, 0, 0, 0, 4];
+    image.extend(program);
+    assert_eq!(turn(&bytes(&image)), expected("000010", "000000"));
+    // All twelve words: the character 301, of 7 bits; output enabled, waiting.
+    let mut image = vec![2, 1, 0, 0, 0, 4, 5, 0, 0, 0, 12];
+    image.extend(program);
+    image.extend([0, 0, 0, 0, 1, 0, 0o301, 1, 1, 1, 0, 0]);
+    assert_eq!(turn(&bytes(&image)), expected("000001", "000101"));
+    assert_eq!(turn(&bytes(&[1, 5, 0, 7, 0, 1, 4])), "refused 2\n");
+    assert_eq!(turn(&bytes(&[1, 5, 0, 11, 0, 2, 0, 0])), "refused 6\n");
+}
+
+#[test]
 fn turn_refuses() {
     assert_eq!(turn(&[]), "refused 4\n");
     assert_eq!(turn(&[0]), "refused 8\n");
@@ -242,7 +265,7 @@ fn turn_refuses() {
     // 65,536 bytes are read: no entries, so the bodies are not the rest.
     assert_eq!(turn(&vec![0; 65_536]), "refused 8\n");
     assert_eq!(turn(&bytes(&[33])), "refused 4\n");
-    assert_eq!(turn(&bytes(&[1, 5, 0, 0, 0, 0])), "refused 5\n");
+    assert_eq!(turn(&bytes(&[1, 6, 0, 0, 0, 0])), "refused 5\n");
     assert_eq!(turn(&bytes(&[1, 1, 0, 16_384, 0, 1, 0])), "refused 6\n");
     assert_eq!(turn(&bytes(&[1, 3, 0, 0, 0, 1, 16])), "refused 2\n");
     // No entries at all: STZ *0 writes zero over itself, 1,000 times.

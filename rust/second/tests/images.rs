@@ -30,13 +30,14 @@ fn load_nothing() {
 #[test]
 fn load_each_kind() {
     let image = [
-        4, // entries
+        5, // entries
         1, 0, 2047, 0, 1, // memory's last word
         2, 0, 119, 0, 2, // registers X of 14, STS of 15
         3, 0, 25, 0, 1, // PCR of 15
         4, 0, 254, 0, 2, // tables
+        5, 0, 6, 0, 2, // devices: the last character typed, the length
         7, // bodies
-        8, 0o377, 0o3603, 10, 11,
+        8, 0o377, 0o3603, 10, 11, 0o377, 3,
     ];
     let (answer, memory, tables) = try_load(&image);
     let state = answer.expect("loads");
@@ -44,6 +45,12 @@ fn load_each_kind() {
     assert_eq!((state.files[14][7], state.files[15][0]), (8, 0o377));
     assert_eq!(state.pcr[15], 0o3603);
     assert_eq!((tables[253], tables[254], tables[255]), (0, 10, 11));
+    let devices = Devices {
+        input_character: 0o377,
+        length: 3,
+        ..Devices::default()
+    };
+    assert_eq!(state.devices, devices);
 }
 
 #[test]
@@ -162,23 +169,29 @@ fn load_about_the_last_control_word() {
 fn older_images() {
     let mut random = Random::new(26);
     let mut held = 0;
-    for turn in 0..100 {
+    for turn in 0..150 {
         let mut start = second::vectors::start(&mut random);
-        let words = 26 + turn % 2;
+        let words = 26 + turn % 3;
+        let table_words = if words == 28 { 512 } else { 256 };
         let image = second::vectors::older_image(&start, words);
+        assert_eq!(image[0], 4);
         assert_eq!(image[11..16], [3, 0, 0, 0, words as u16]);
-        assert_eq!(image[16..21], [4, 0, 0, 0, 256]);
-        assert_eq!(image.len(), start.memory.len() + 405 + words);
+        assert_eq!(image[16..21], [4, 0, 0, 0, table_words as u16]);
+        assert_eq!(image.len(), start.memory.len() + 149 + words + table_words);
         let mut tables = start.tables.clone();
         let state = load(&image, &mut start.memory.clone(), &mut tables);
         held += start.state.pgs_held;
         if words == 26 {
             start.state.pgs_held = 0;
         }
-        start.state.extended = 0;
+        if words < 28 {
+            start.state.extended = 0;
+        }
+        // Whatever the machine had.
+        start.state.devices = Devices::default();
         assert_eq!(state, Ok(start.state));
-        assert_eq!(tables[..256], start.tables[..256]);
-        assert!(tables[256..].iter().all(|&word| word == 0));
+        assert_eq!(tables[..table_words], start.tables[..table_words]);
+        assert!(tables[table_words..].iter().all(|&word| word == 0));
     }
     assert!(held > 20);
 }
@@ -207,9 +220,9 @@ fn load_refuses_contents() {
 #[test]
 fn load_refuses_entries() {
     refused(&[1, 0, 0, 0, 0, 0], Refusal::Kind);
-    refused(&[1, 5, 0, 0, 0, 0], Refusal::Kind);
-    // Sizes: 2,048 words of memory here, 128, 28, 512.
-    for (kind, size) in [(1, 2048), (2, 128), (3, 28), (4, 512)] {
+    refused(&[1, 6, 0, 0, 0, 0], Refusal::Kind);
+    // Sizes: 2,048 words of memory here, 128, 28, 512, 12.
+    for (kind, size) in [(1, 2048), (2, 128), (3, 28), (4, 512), (5, 12)] {
         refused(&[1, kind, 0, size, 0, 1, 0], Refusal::Beyond);
         refused(&[1, kind, 0, 0, 0, size + 1, 0], Refusal::Beyond);
         refused(&[1, kind, 1, 0, 0, 0], Refusal::Beyond);
@@ -274,11 +287,17 @@ fn sizes_come_first() {
         let mut t = vec![6; tables];
         let mut s = state.clone();
         s.level = 16; // also out of range: 1 comes first
+        s.devices.input_unread = 1;
         let before = s.clone();
         assert_eq!(step(&mut s, &mut m, &mut t), Err(Refusal::Size));
         assert_eq!(run(&mut s, &mut m, &mut t, 5, true), Err(Refusal::Size));
         assert_eq!(run(&mut s, &mut m, &mut t, 0, false), Err(Refusal::Size));
         assert_eq!(raise(&mut s, &m, &t, 0), Err(Refusal::Size));
+        assert_eq!(tick(&mut s, &m, &t), Err(Refusal::Size));
+        assert_eq!(type_character(&mut s, &m, &t, 0), Err(Refusal::Size));
+        assert_eq!(read_out(&mut s, &m, &t), Err(Refusal::Size));
+        let ran = run_with_input(&mut s, &mut m, &mut t, 5, &[]);
+        assert_eq!(ran, Err(Refusal::Size));
         assert_eq!(load(&[], &mut m, &mut t), Err(Refusal::Size));
         assert_eq!(write(&s, &m, &t, &mut []), Err(Refusal::Size));
         let refusal = view_number(&m, &t, Target::Memory, 0, 0);
@@ -325,6 +344,17 @@ fn out_of_range() -> Vec<State> {
         add(154, held); // whether PGS is held
         add(155, held); // extended mode
     }
+    // Devices' words: two characters, the length, flags.
+    for word in 0..12 {
+        let most = match word {
+            6 | 11 => 255,
+            7 => 3,
+            _ => 1,
+        };
+        for above in [most + 1, 0o100000, 0o100000 | most, 0o177777] {
+            add(156 + word, above);
+        }
+    }
     states
 }
 
@@ -340,11 +370,28 @@ fn states_out_of_range() {
         // 2 before 3, and before 10.
         assert_eq!(raise(&mut s, &m, &t, 14), Err(Refusal::State));
         assert_eq!(raise(&mut s, &m, &t, 10), Err(Refusal::State));
+        assert_eq!(tick(&mut s, &m, &t), Err(Refusal::State));
+        assert_eq!(read_out(&mut s, &m, &t), Err(Refusal::State));
         assert_eq!(write(&s, &m, &t, &mut []), Err(Refusal::State));
+        let inputs = [(0, Input::Tick)];
+        let ran = run_with_input(&mut s, &mut m, &mut t, 5, &inputs);
+        assert_eq!(ran, Err(Refusal::State));
+        // 2 before 11.
+        for unread in [0, 1] {
+            let mut unread = State {
+                devices: Devices {
+                    input_unread: s.devices.input_unread | unread,
+                    ..s.devices.clone()
+                },
+                ..s.clone()
+            };
+            let typed = type_character(&mut unread, &m, &t, 5);
+            assert_eq!(typed, Err(Refusal::State));
+        }
         assert_eq!(s, state);
         // A view does not look at the state; load finds it in the image.
         let words = state.to_words();
-        let mut image = vec![2, 2, 0, 0, 0, 128, 3, 0, 0, 0, 28];
+        let mut image = vec![3, 2, 0, 0, 0, 128, 3, 0, 0, 0, 28, 5, 0, 0, 0, 12];
         image.extend(words);
         refused(&image, Refusal::State);
     }
@@ -359,6 +406,7 @@ fn states_out_of_range() {
     ]);
     words[154] = 1;
     words[155] = 1;
+    words[156..].copy_from_slice(&[1, 1, 1, 1, 1, 1, 255, 3, 1, 1, 1, 255]);
     assert!(State::from_words(&words).in_range());
 }
 
@@ -406,41 +454,45 @@ fn writes() {
     case.t[511] = 9;
     case.s.pcr[15] = 3;
     case.s.pgs_held = 1;
-    let mut out = vec![0o55; PAGE + 689 + 2];
-    assert_eq!(write(&case.s, &case.m, &case.t, &mut out), Ok(PAGE + 689));
+    case.s.devices.clock_enabled = 1;
+    case.s.devices.output_character = 0o101;
+    let mut out = vec![0o55; PAGE + 706 + 2];
+    assert_eq!(write(&case.s, &case.m, &case.t, &mut out), Ok(PAGE + 706));
     assert_eq!(
-        out[..21],
+        out[..26],
         [
-            4, 1, 0, 0, 0, 1024, 2, 0, 0, 0, 128, 3, 0, 0, 0, 28, 4, 0, 0, 0, 512
+            5, 1, 0, 0, 0, 1024, 2, 0, 0, 0, 128, 3, 0, 0, 0, 28, 4, 0, 0, 0, 512, 5, 0, 0, 0, 12
         ]
     );
-    assert_eq!(out[21 + 0o100], 0o123); // memory
-    assert_eq!(out[21 + 1024 + 5], 5); // A of level 0
-    assert_eq!(out[21 + 1024 + 128 + 25], 3); // PCR of level 15
-    assert_eq!(out[21 + 1024 + 128 + 26], 1); // PGS is held
-    assert_eq!(out[21 + 1024 + 128 + 27], 0); // 19-bit mode
-    assert_eq!(out[21 + 1024 + 128 + 28 + 511], 9); // last table word
-    assert_eq!(out[PAGE + 689..], [0o55, 0o55]);
+    assert_eq!(out[26 + 0o100], 0o123); // memory
+    assert_eq!(out[26 + 1024 + 5], 5); // A of level 0
+    assert_eq!(out[26 + 1024 + 128 + 25], 3); // PCR of level 15
+    assert_eq!(out[26 + 1024 + 128 + 26], 1); // PGS is held
+    assert_eq!(out[26 + 1024 + 128 + 27], 0); // 19-bit mode
+    assert_eq!(out[26 + 1024 + 128 + 28 + 511], 9); // last table word
+    let devices = [1, 0, 0, 0, 0, 0, 0, 0, 0, 0, 0, 0o101];
+    assert_eq!(out[26 + 1024 + 128 + 28 + 512..][..12], devices);
+    assert_eq!(out[PAGE + 706..], [0o55, 0o55]);
     // Just enough; not held, in extended mode.
     case.s.pgs_held = 0;
     case.s.extended = 1;
-    let mut out = vec![0o55; PAGE + 689];
-    assert_eq!(write(&case.s, &case.m, &case.t, &mut out), Ok(PAGE + 689));
-    assert_eq!(out[21 + 1024 + 128 + 26..][..2], [0, 1]);
+    let mut out = vec![0o55; PAGE + 706];
+    assert_eq!(write(&case.s, &case.m, &case.t, &mut out), Ok(PAGE + 706));
+    assert_eq!(out[26 + 1024 + 128 + 26..][..2], [0, 1]);
     // One word short: 10, and nothing is written.
-    let mut out = vec![0o55; PAGE + 688];
+    let mut out = vec![0o55; PAGE + 705];
     assert_eq!(
         write(&case.s, &case.m, &case.t, &mut out),
         Err(Refusal::Short)
     );
     assert!(out.iter().all(|&word| word == 0o55));
     // A long memory's length takes both words.
-    let mut out = vec![0; 524_288 + 689];
+    let mut out = vec![0; 524_288 + 706];
     assert_eq!(
         write(&case.s, &vec![0; 524_288], &case.t, &mut out),
-        Ok(524_977)
+        Ok(524_994)
     );
-    assert_eq!(out[..6], [4, 1, 0, 0, 8, 0]);
+    assert_eq!(out[..6], [5, 1, 0, 0, 8, 0]);
 }
 
 #[test]
@@ -494,7 +546,7 @@ fn views() {
 fn numbers_of_refusals() {
     use Refusal::*;
     let all = [
-        Size, State, Level, Contents, Kind, Beyond, Twice, Bodies, View, Short,
+        Size, State, Level, Contents, Kind, Beyond, Twice, Bodies, View, Short, Unread,
     ];
-    assert!((1..=10).eq(all.map(Refusal::number)));
+    assert!((1..=11).eq(all.map(Refusal::number)));
 }

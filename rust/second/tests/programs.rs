@@ -36,7 +36,8 @@ fn vectors_read_back() {
         let pages: usize = head[2].parse().expect("pages");
         let mut words = [0; STATE_WORDS];
         put(&mut words[..128], &fields(&mut lines, "reg"));
-        put(&mut words[128..], &fields(&mut lines, "ctl"));
+        put(&mut words[128..156], &fields(&mut lines, "ctl"));
+        put(&mut words[156..], &fields(&mut lines, "dev"));
         let mut read = Start {
             state: State::from_words(&words),
             memory: vec![0; pages * PAGE],
@@ -53,6 +54,7 @@ fn vectors_read_back() {
         let mut all: Vec<u16> = fields(&mut lines, "reg=").into_iter().map(octal).collect();
         all.extend(fields(&mut lines, "ctl=").into_iter().map(octal));
         assert_eq!(all.len(), 128 + 28);
+        all.extend(fields(&mut lines, "dev=").into_iter().map(octal));
         assert_eq!(all, after.state.to_words());
         put(&mut read.memory, &fields(&mut lines, "mem+"));
         put(&mut read.tables, &fields(&mut lines, "tab+"));
@@ -74,6 +76,6 @@ fn vectors_program_is_deterministic() {
     assert_ne!(run("4"), run("5"));
     assert_eq!(
         run("4").iter().filter(|&&byte| byte == b'\n').count(),
-        20 * 11
+        20 * 13
     );
 }

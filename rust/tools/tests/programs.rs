@@ -127,6 +127,28 @@ fn trace_of_extended_mode() {
     assert_eq!(trace(&[], &image), wanted);
 }
 
+/// A character that an image has as typed: it is read and sent, and the output asks when it is enabled before.
+#[test]
+fn trace_of_devices() {
+    let image = [
+        2, // memory 0 to 5; devices' words 4 to 6: unread, asks, the character
+        1, 0, 0, 0, 6, //
+        5, 0, 4, 0, 3, //
+        0o143622, 0o164307, 0o164300, 0o164305, 0o164012, 0o151000, //
+        1, 1, 0o101,
+    ];
+    let wanted = [
+        "0 000000 143622 IDENT PL12 A=000001 INPUT-ASKS=000000",
+        "0 000001 164307 IOX 307 PID=002000 OUTPUT-ENABLED=000001 OUTPUT-ASKS=000001",
+        "0 000002 164300 IOX 300 A=000101 INPUT-UNREAD=000000",
+        "0 000003 164305 IOX 305 OUTPUT-WAITS=000001 OUTPUT=000101",
+        "0 000004 164012 IOX 12 A=000000",
+        "0 000005 151000 WAIT STOPPED=000001",
+    ]
+    .map(|line| line.split(' ').map(str::to_string).collect::<Vec<_>>());
+    assert_eq!(trace(&[], &image), wanted);
+}
+
 #[test]
 fn trace_refuses() {
     fails(TRACE, &[], &[], "refused 4");

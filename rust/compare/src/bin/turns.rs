@@ -2,7 +2,7 @@
 
 use second::random::Random;
 use second::vectors::{image, instruction, older_image, start};
-use second::{CONTROL_WORDS, REGISTER_WORDS, TABLE_WORDS, control};
+use second::{CONTROL_WORDS, DEVICE_WORDS, FIRST_DEVICE, REGISTER_WORDS, TABLE_WORDS, control};
 use std::collections::BTreeMap;
 use std::ffi::OsStr;
 use std::io::{self, Write};
@@ -30,16 +30,20 @@ fn machine(random: &mut Random) -> Vec<u16> {
         start.memory.fill_with(|| instruction(random));
     }
     if random.one_in(4) {
-        let words = random.pick(&[control::PGS_HELD, control::EXTENDED]);
+        let words = random.pick(&[control::PGS_HELD, control::EXTENDED, CONTROL_WORDS]);
         older_image(&start, words)
     } else {
         image(&start)
     }
 }
 
-/// Control words of a random machine, or one word less or more than there are.
-fn control_words(random: &mut Random) -> Vec<u16> {
-    let mut words = start(random).state.to_words()[REGISTER_WORDS..].to_vec();
+/// Control or devices' words of a random machine, or one word less or more than there are.
+fn state_words(random: &mut Random, kind: u16) -> Vec<u16> {
+    let all = start(random).state.to_words();
+    let mut words = match kind {
+        3 => all[REGISTER_WORDS..FIRST_DEVICE].to_vec(),
+        _ => all[FIRST_DEVICE..].to_vec(),
+    };
     let length = words.len() + 1 - random.below(3) as usize;
     words.resize(length, 0);
     words
@@ -56,11 +60,11 @@ fn pieces(random: &mut Random) -> Vec<u16> {
     let form = random.below(3);
     for _ in 0..count {
         let kind = match random.below(20) {
-            0 => random.pick(&[0, 5, 0o177777]),
-            _ => random.pick(&[1, 1, 1, 2, 3, 4]),
+            0 => random.pick(&[0, 6, 0o177777]),
+            _ => random.pick(&[1, 1, 1, 2, 3, 4, 5]),
         };
-        if kind == 3 && random.one_in(2) {
-            let words = control_words(random);
+        if [3, 5].contains(&kind) && random.one_in(2) {
+            let words = state_words(random, kind);
             image.extend([kind, 0, 0, 0, words.len() as u16]);
             bodies.extend(words);
             continue;
@@ -69,6 +73,7 @@ fn pieces(random: &mut Random) -> Vec<u16> {
             2 => REGISTER_WORDS,
             3 => CONTROL_WORDS,
             4 => TABLE_WORDS,
+            5 => DEVICE_WORDS,
             _ => 16_384,
         } as u64;
         let start = random.below(size + 1);
@@ -98,7 +103,8 @@ fn pieces(random: &mut Random) -> Vec<u16> {
 /// A few words of an image changed, mostly in its list of contents.
 fn damage(random: &mut Random, image: &mut [u16]) {
     for _ in 0..1 + random.below(3) {
-        let reach = if random.one_in(2) { 21 } else { image.len() };
+        // The list of contents that the writer makes, or all.
+        let reach = if random.one_in(2) { 26 } else { image.len() };
         let at = random.below(reach.min(image.len()) as u64) as usize;
         match random.below(4) {
             0 => image[at] ^= 1 << random.below(16),

@@ -67,7 +67,7 @@ fn of(extended: bool, label: &'static str) -> Case {
 impl Case {
     /// The entry of a slot in the form of the mode: permits, marks and ring, and
     /// the page.
-    fn slot(self, slot: usize, word: u16, page: u16) -> Case {
+    pub(super) fn slot(self, slot: usize, word: u16, page: u16) -> Case {
         match self.state.extended {
             0 => self.short(slot, word, page),
             _ => self.long(slot, word, page),
@@ -83,19 +83,19 @@ impl Case {
     }
 
     /// The entry of an address in the normal table, in the form of the mode.
-    fn paged(self, address: u16, word: u16, page: u16) -> Case {
+    pub(super) fn paged(self, address: u16, word: u16, page: u16) -> Case {
         let slot = self.index(address, false);
         self.slot(slot, word, page)
     }
 
     /// A ring, with the code's page of it too.
-    fn on_ring(self, ring: u16) -> Case {
+    pub(super) fn on_ring(self, ring: u16) -> Case {
         let slot = self.index(self.get(Reg::P), false);
         let page = self.physical_page(slot) as u16;
         self.ring(ring).slot(slot, PERMITS | ring << 9, page)
     }
 
-    fn running(mut self, operation: Operation) -> Case {
+    pub(super) fn running(mut self, operation: Operation) -> Case {
         self.operation = operation;
         self
     }
@@ -922,7 +922,7 @@ fn writes(cases: &mut Vec<Case>) {
             cases.push(lent(true, "write", pages).running(operation));
         }
     }
-    // The sizes before: 431 and 432 words more than memory.
+    // The sizes before: 431, 432 and 689 words more than memory.
     for extra in [431, 432, 433, 688, 689] {
         for extended in MODES {
             let operation = Operation::Write(PAGE + extra);

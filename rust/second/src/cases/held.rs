@@ -59,7 +59,7 @@ impl Case {
     }
 
     /// Changes the case as if another level ran.
-    fn for_level(self, level: usize, change: impl FnOnce(Case) -> Case) -> Case {
+    pub(super) fn for_level(self, level: usize, change: impl FnOnce(Case) -> Case) -> Case {
         let running = self.state.level;
         let case = change(self.with(|state| state.level = level as u16));
         case.with(|state| state.level = running)

@@ -164,7 +164,7 @@ fn states(cases: &mut Vec<Case>) {
 }
 
 /// An image of entries (kind, start, length) and as many body words.
-fn image(entries: &[(u16, u32, u32)]) -> Vec<u16> {
+pub fn image(entries: &[(u16, u32, u32)]) -> Vec<u16> {
     let mut words = vec![entries.len() as u16];
     let mut bodies = 0;
     for &(kind, start, length) in entries {
@@ -262,7 +262,7 @@ fn damaged(cases: &mut Vec<Case>) {
     // 5, 6 and 7 entry by entry, then 8, then 2.
     let refused: [&[(u16, u32, u32)]; 32] = [
         &[(0, 0, 1)],
-        &[(5, 0, 1)],
+        &[(6, 0, 1)],
         &[(0o177777, 0, 0)],
         &[(1, 0, 4097)],
         &[(1, 4096, 1)],
@@ -289,8 +289,8 @@ fn damaged(cases: &mut Vec<Case>) {
         &[(1, 5, 5), (1, 4, 2)],
         &[(1, 5, 5), (1, 6, 2)],
         &[(1, 5, 5), (1, 0, 20)],
-        &[(1, 5, 5), (5, 0, 1), (1, 5, 1)],
-        &[(1, 5, 5), (1, 5, 1), (5, 0, 1)],
+        &[(1, 5, 5), (6, 0, 1), (1, 5, 1)],
+        &[(1, 5, 5), (1, 5, 1), (6, 0, 1)],
         &[(1, 5, 5), (1, 5, 4092)],
         &[(2, 0, 200), (9, 0, 0)],
     ];

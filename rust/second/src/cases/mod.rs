@@ -1,6 +1,7 @@
 //! Cases of every operation for the proved engine: `crates/check_*` run them,
 //! and their stored answers are this engine's. `NOTES.md` has the format.
 
+mod devices;
 mod extended;
 mod fetches;
 mod floating;
@@ -12,11 +13,12 @@ mod runs;
 mod system;
 mod words;
 
-use crate::answer::{Interrupt, Reason, Refusal};
+use crate::answer::{Interrupt, Reason, Refusal, Told};
 use crate::decode::Reg;
 use crate::image::{Target, load, view, view_number, write};
+use crate::input::{Input, Session, raise, read_out, run_with_input, tick, type_character};
 use crate::state::{REGISTER_WORDS, STATE_WORDS, State, control};
-use crate::step::{raise, run, step};
+use crate::step::{run, step};
 use crate::{PAGE, TABLE_WORDS};
 use std::fmt::Write;
 
@@ -27,7 +29,7 @@ pub type Lines = (String, String);
 type Group = (&'static str, fn() -> Vec<Lines>);
 
 /// The programs `crates/check_NAME`, each with its groups of cases.
-pub const PROGRAMS: [(&str, &[Group]); 5] = [
+pub const PROGRAMS: [(&str, &[Group]); 6] = [
     (
         "instructions",
         &[
@@ -68,6 +70,18 @@ pub const PROGRAMS: [(&str, &[Group]); 5] = [
         ],
     ),
     (
+        "devices",
+        &[
+            ("registers", || lines(&devices::registers())),
+            ("ident", || lines(&devices::ident())),
+            ("operations", || lines(&devices::operations())),
+            ("runs", || lines(&devices::runs())),
+            ("stories", || lines(&devices::stories())),
+            ("random steps", || lines(&devices::random())),
+            ("random runs", || lines(&devices::random_runs())),
+        ],
+    ),
+    (
         "floating",
         &[
             ("examples", floating::examples),
@@ -99,6 +113,11 @@ pub enum Operation {
     View(Target, usize, usize),
     /// Into so many words of output, then loaded over other contents.
     WriteLoad(usize),
+    Tick,
+    Typed(u8),
+    ReadOut,
+    /// So many steps; the inputs as words, each with the number of steps before it.
+    WithInput(u64, Vec<(u64, u16)>),
 }
 
 /// The level that runs in the base machine.
@@ -320,6 +339,13 @@ impl Case {
                 (6, vec![kind, *start as u64, *length as u64])
             }
             Operation::WriteLoad(length) => (7, vec![*length as u64]),
+            Operation::Tick => (0o20, vec![]),
+            Operation::Typed(character) => (0o21, vec![(*character).into()]),
+            Operation::ReadOut => (0o22, vec![]),
+            Operation::WithInput(steps, inputs) => {
+                let pairs = inputs.iter().flat_map(|&(at, word)| [at, word.into()]);
+                (0o23, [*steps].into_iter().chain(pairs).collect())
+            }
         }
     }
 
@@ -414,6 +440,23 @@ impl Case {
                 }
                 (refusal, sum(&out), number(written).into())
             }
+            Operation::Tick => tick(state, memory, tables).map_or_else(refused, |()| (0, 0, 0)),
+            Operation::Typed(character) => {
+                let answer = type_character(state, memory, tables, *character);
+                answer.map_or_else(refused, |()| (0, 0, 0))
+            }
+            Operation::ReadOut => {
+                let answer = read_out(state, memory, tables);
+                answer.map_or_else(refused, |sent| {
+                    (0, sent.map_or(Told::None, Told::Character).word().into(), 0)
+                })
+            }
+            Operation::WithInput(steps, inputs) => {
+                let input = |&(at, word): &(u64, u16)| (at, Input::from_word(word));
+                let inputs: Vec<_> = inputs.iter().map(input).collect();
+                let answer = run_with_input(state, memory, tables, *steps, &inputs);
+                answer.map_or_else(refused, ended_with_input)
+            }
         }
     }
 }
@@ -422,19 +465,61 @@ fn number(refusal: Option<Refusal>) -> u16 {
     refusal.map_or(0, Refusal::number)
 }
 
-/// Reasons in the order of the tests, then the steps.
-fn ended((steps, reason): (u64, Reason)) -> (u16, u64, u64) {
-    let reason = match reason {
+/// Reasons in the order of the tests.
+fn reason_number(reason: Reason) -> u64 {
+    match reason {
         Reason::Stopped => 0,
         Reason::Level => 1,
         Reason::Spent => 2,
         Reason::Interrupt => 3,
-    };
-    (0, reason, steps)
+    }
+}
+
+/// The reason, then the steps.
+fn ended((steps, reason): (u64, Reason)) -> (u16, u64, u64) {
+    (0, reason_number(reason), steps)
+}
+
+/// The reason with the checksum of what the inputs were told, then the steps.
+fn ended_with_input(session: Session) -> (u16, u64, u64) {
+    let told: Vec<u16> = session.told.into_iter().map(Told::word).collect();
+    (
+        0,
+        reason_number(session.reason) + 8 * sum(&told),
+        session.steps,
+    )
 }
 
 /// Checksum of words: each counts by its place.
 fn sum(words: &[u16]) -> u64 {
     let add = |sum: u64, &word: &u16| (sum * 1_000_003 + u64::from(word) + 1) % 4_294_967_291;
     words.iter().fold(1, add)
+}
+
+#[cfg(test)]
+mod tests {
+    use super::*;
+
+    /// What a program reads.
+    const MOST_BYTES: usize = 524_288;
+    const MOST_NUMBERS: usize = 196_608;
+
+    #[test]
+    fn programs_read_all_cases() {
+        for (name, groups) in PROGRAMS {
+            let cases = groups.iter().flat_map(|(_, make)| make());
+            let (mut bytes, mut numbers) = (0, 0);
+            for (line, _) in cases {
+                let of_line = line
+                    .split(|c: char| !c.is_digit(8))
+                    .filter(|n| !n.is_empty());
+                bytes += line.len() + 1;
+                numbers += of_line.count();
+            }
+            assert!(
+                bytes <= MOST_BYTES && numbers <= MOST_NUMBERS,
+                "{name}: {bytes} {numbers}"
+            );
+        }
+    }
 }

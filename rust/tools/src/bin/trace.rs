@@ -2,7 +2,7 @@
 //! that word and its mnemonic come from the second engine.
 
 use nd110::{Control, MEMORY_MOST, PAGE_WORDS, Register, State, TABLE_WORDS};
-use second::{REGISTER_WORDS, Reg, control, disassemble, next_word};
+use second::{DEVICE_NAMES, FIRST_DEVICE, REGISTER_WORDS, Reg, control, disassemble, next_word};
 use std::fmt::Write as _;
 use std::io::{self, BufWriter, Read, Write};
 use std::process::ExitCode;
@@ -11,9 +11,10 @@ const USAGE: &str = "\
 usage: trace [STEPS [PAGES]] < IMAGE
 
 Loads an image into so many pages of memory and steps it until it stops, with a line for each step:
-level, address, word, mnemonic, registers and control words that changed, interrupt. P going on by
-one is not mentioned. At most 1,000 steps and 16 pages unless said otherwise. The steps are those of
-the proved engine; word and mnemonic are the second engine's.";
+level, address, word, mnemonic, registers, control words and devices' words that changed, interrupt.
+P going on by one is not mentioned. Nothing is typed, the clock does not tick, and what is sent is
+not read out. At most 1,000 steps and 16 pages unless said otherwise. The steps are those of the
+proved engine; word and mnemonic are the second engine's.";
 
 /// Internal interrupts by number; 8 and 10 never come.
 const INTERRUPTS: [&str; 11] = [
@@ -42,7 +43,8 @@ fn changes(before: &State, after: &State) -> String {
         let name = match index {
             0..REGISTER_WORDS if index / 8 == level => Reg::ALL[index % 8].name().to_string(),
             0..REGISTER_WORDS => format!("{}({})", Reg::ALL[index % 8].name(), index / 8),
-            _ => control::name(index - REGISTER_WORDS),
+            REGISTER_WORDS..FIRST_DEVICE => control::name(index - REGISTER_WORDS),
+            _ => DEVICE_NAMES[index - FIRST_DEVICE].to_string(),
         };
         let _ = write!(text, " {name}={new:06o}");
     }
