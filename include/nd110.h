@@ -8,8 +8,8 @@
  * under "What cannot be seen".
  *
  * Lent words
- *   state    ND110_STATE_WORDS words in image order, 128 registers and 28 control words: register n of level l is word
- *            8 * l + n, control word n is word 128 + n
+ *   state    ND110_STATE_WORDS words in image order, 128 registers, 28 control words and 12 words of the devices:
+ *            register n of level l is word 8 * l + n, control word n is word 128 + n, device word n is word 156 + n
  *   memory   1,024 to 16,777,216 words, a multiple of 1,024, in 19-bit and in extended mode
  *   tables   ND110_TABLE_WORDS words, in either mode: four page tables of 64 entries
  *   Each is handed in as a place and its length in words, but for a record, which is a place alone. The engine keeps
@@ -29,19 +29,26 @@
  *   SEX, REX and a host's store to ND110_EXTENDED change the mode and no table word: from then on the same words are
  *   read in the other form.
  *
+ * The devices
+ *   The real-time clock and terminal 1 of document 000, section 6.9. The caller is what stands behind them: it hands in
+ *   a tick every 20 ms and the characters that are typed, and reads out the character that was sent, all between steps
+ *   (nd110_tick, nd110_type, nd110_read_out, or a list of them by nd110_run_with_input). docs/DEVICES.md has their
+ *   registers and what is not there.
+ *
  * What can be seen, and is refused: every length; every word of the state; every word of an image; the level of a
- * raise; the kind, start and length of a view, sums that would wrap included; every word of a number to be converted.
+ * raise; a character typed while the last is unread; the kind, start and length of a view, sums that would wrap
+ * included; every word of a number to be converted.
  *
  * What cannot be seen, and is the caller's to ensure:
  *   - a place that is null, or that no longer holds words (dangling): it is read or written all the same.
  *     ND110_LENT(p, n) hands in the length 0 for a null pointer, which is refused wherever words are needed; a record
- *     that is lent, interrupt, steps and reason must not be null;
+ *     that is lent, interrupt, character, handed, steps and reason must not be null;
  *   - a length greater than what is lent there: the call reads or writes past the end;
  *   - a record of a program that was compiled with the header of an earlier version: it is shorter, and the call reads
  *     and writes past its end (docs/HOST.md);
  *   - places that overlap, where the call writes one of them: each is taken to be alone. image and out are lent words
- *     too;
- *   - a place that is not aligned for a word;
+ *     too, and so are the three lists of nd110_run_with_input;
+ *   - a place that is not aligned for a word, of at for a number of 64 bits;
  *   - another thread that writes the same words during the call. Calls on different words may run at the same time.
  */
 #ifndef ND110_H
@@ -55,21 +62,21 @@ extern "C" {
 #endif
 
 /* The version of this interface; docs/HOST.md tells what each changed. */
-#define ND110_VERSION 4
+#define ND110_VERSION 5
 
 /* Sizes, in words. An image that nd110_write makes has memory + ND110_IMAGE_EXTRA words. */
-#define ND110_STATE_WORDS 156
+#define ND110_STATE_WORDS 168
 #define ND110_TABLE_WORDS 512
 #define ND110_PAGE_WORDS 1024
 #define ND110_MEMORY_MOST 16777216
-#define ND110_IMAGE_EXTRA 689
+#define ND110_IMAGE_EXTRA 706
 
 /* Words of the floating forms: A D of the short one, 32 bits, and T A D of the long one, 48 bits. */
 #define ND110_SHORT_WORDS 2
 #define ND110_LONG_WORDS 3
 
-/* Answers: done, document 01's refusals, those of document 02's conversions, and a call that is no operation (255, as
- * document 02 gives 11 to 18 to its requests). */
+/* Answers: done, document 01's refusals, those of document 02's devices and conversions, and a call that is no
+ * operation (255, as document 02 gives 11 to 18 to its requests). */
 #define ND110_DONE 0
 #define ND110_SIZES 1           /* memory or page tables of another size; before all others but ND110_BAD_CALL */
 #define ND110_STATE 2           /* a state out of its ranges; of load, the image's */
@@ -81,21 +88,32 @@ extern "C" {
 #define ND110_BODIES 8          /* load: bodies other than exactly the rest of the image */
 #define ND110_VIEW 9            /* view: start plus length beyond the target's size */
 #define ND110_OUTPUT 10         /* write: fewer than memory + ND110_IMAGE_EXTRA words of output */
+#define ND110_UNREAD 11         /* type: the character typed last is unread */
 #define ND110_MALFORMED 15      /* not zero, and a short exponent field or the top bit of a long mantissa is 0 */
 #define ND110_EXPONENT_RANGE 16 /* long to short: an exponent field beyond 16,129 to 16,639 */
 #define ND110_PRECISION 17      /* long to short: any of the nine lowest mantissa bits is set */
-#define ND110_BAD_CALL 255      /* a state of other than 156 words; view: an unknown kind, or too few words of output;
-                                 * a conversion: an output of other than the form's words */
+#define ND110_BAD_CALL 255      /* a state of other than 168 words; view: an unknown kind, or too few words of output;
+                                 * a run with input: lists of different lengths; a conversion: an output of other than
+                                 * the form's words */
 
 /* Why a run ended. */
 #define ND110_STOPPED 0      /* the machine is stopped */
-#define ND110_LEVEL 1        /* a change of level is due (to the first interrupt only) */
+#define ND110_LEVEL 1        /* a change of level is due (to the first interrupt, and with input, only) */
 #define ND110_SPENT 2        /* as many steps as asked were taken */
-#define ND110_INTERRUPTED 3  /* the last step gave an interrupt (to the first interrupt only) */
+#define ND110_INTERRUPTED 3  /* the last step gave an interrupt (to the first interrupt, and with input, only) */
 
 /* Kinds of a view: the numbers of an image's kinds. */
 #define ND110_MEMORY 1
 #define ND110_TABLES 4
+
+/* An input of nd110_run_with_input as a word. Below 256 it is the level to raise; every other word that is not named
+ * here is a raise too, which is refused: ND110_RAISE_LEVEL. */
+#define ND110_TICK 256
+#define ND110_READ_OUT 257
+#define ND110_TYPED 512      /* plus the character, 0 to 255 */
+
+/* What a read out tells where no character waits. */
+#define ND110_NO_CHARACTER 256
 
 /* Registers of a level, and control words. ND110_PCR is the PCR of level 0, and those of levels 1 to 15 follow it.
  * ND110_PGS_HELD is 1 from the paging fault (interrupt 2 or 3) that wrote PGS until TRA PGS is executed, and PGS keeps
@@ -109,14 +127,26 @@ enum {
     ND110_PGS_HELD = 26, /* ND110_PCR + 16 */
     ND110_EXTENDED = 27
 };
+
+/* The devices' words: of the clock, of the terminal's input and of its output. Characters are 0 to 255, the length is 0
+ * to 3, the others are 0 or 1, in any combination. ENABLED is bit 0 of the control word written last; READY, UNREAD and
+ * not WAITS are bit 3 of the status; ASKS is the interrupt flip-flop, which IDENT alone clears; LENGTH is bits 12-11 of
+ * the input's control word, for characters of 8 less so many bits. A character stays when it is read or read out. */
+enum {
+    ND110_CLOCK_ENABLED, ND110_CLOCK_READY, ND110_CLOCK_ASKS,
+    ND110_INPUT_ENABLED, ND110_INPUT_UNREAD, ND110_INPUT_ASKS, ND110_INPUT_CHARACTER, ND110_INPUT_LENGTH,
+    ND110_OUTPUT_ENABLED, ND110_OUTPUT_WAITS, ND110_OUTPUT_ASKS, ND110_OUTPUT_CHARACTER
+};
 #define ND110_REGISTER(level, number) (8 * (level) + (number))
 #define ND110_CONTROL(number) (128 + (number))
+#define ND110_DEVICE(number) (156 + (number))
 
 /* Lent words as the two arguments that they are; a null pointer goes with length 0. The pointer is evaluated twice. */
 static inline size_t nd110_words(const uint16_t *p, size_t n) { return p ? n : 0; }
 #define ND110_LENT(p, n) (p), nd110_words((p), (n))
 
-/* A state as a record: registers[l][n] is register n of level l (ND110_STS to ND110_X), then the control words. */
+/* A state as a record: registers[l][n] is register n of level l (ND110_STS to ND110_X), then the control words and the
+ * devices' words. */
 typedef struct nd110_state {
     uint16_t registers[16][8];
     uint16_t level;
@@ -132,6 +162,18 @@ typedef struct nd110_state {
     uint16_t pcr[16];
     uint16_t pgs_held;
     uint16_t extended;
+    uint16_t clock_enabled;
+    uint16_t clock_ready;
+    uint16_t clock_asks;
+    uint16_t input_enabled;
+    uint16_t input_unread;
+    uint16_t input_asks;
+    uint16_t input_character;
+    uint16_t input_length;
+    uint16_t output_enabled;
+    uint16_t output_waits;
+    uint16_t output_asks;
+    uint16_t output_character;
 } nd110_state;
 
 /* Does not compile, as C or C++, if the record has other than ND110_STATE_WORDS words. */
@@ -172,10 +214,40 @@ uint16_t nd110_raise(uint16_t *state, size_t state_len, uint16_t level, const ui
 uint16_t nd110_raise_lent(nd110_state *state, uint16_t level, const uint16_t *memory, size_t memory_len,
                           const uint16_t *tables, size_t tables_len);
 
+/* The real-time clock's pulse: the clock is ready, and asks for level 13 if it is enabled. A tick that comes before the
+ * last was served is not counted, but asks again. Of a stopped machine too. Memory and tables are only measured.
+ * ND110_BAD_CALL, ND110_SIZES, ND110_STATE. */
+uint16_t nd110_tick(uint16_t *state, size_t state_len, const uint16_t *memory, size_t memory_len,
+                    const uint16_t *tables, size_t tables_len);
+
+/* A character typed at the terminal: it is unread, and the input asks for level 12 if it is enabled. Of a stopped
+ * machine too. Memory and tables are only measured. ND110_BAD_CALL, ND110_SIZES, ND110_STATE, ND110_UNREAD. */
+uint16_t nd110_type(uint16_t *state, size_t state_len, uint8_t character, const uint16_t *memory,
+                    size_t memory_len, const uint16_t *tables, size_t tables_len);
+
+/* The character that was sent last, once: *character gets it, none waits any more, and the output asks for level 10 if
+ * it is enabled. If none waits *character gets ND110_NO_CHARACTER, and nothing else changes. Of a stopped machine too.
+ * Memory and tables are only measured. ND110_BAD_CALL, ND110_SIZES, ND110_STATE. */
+uint16_t nd110_read_out(uint16_t *state, size_t state_len, const uint16_t *memory, size_t memory_len,
+                        const uint16_t *tables, size_t tables_len, uint16_t *character);
+
+/* nd110_run_to_interrupt with device input: what[i], an input as a word, is handed in after at[i] steps, or as soon as
+ * the one before it is if these have passed already. One list in three parts of one length; its order holds. An input
+ * for a step beyond n is not handed in, nor is any behind it; a run that has ended (stopped, level or interrupt, which
+ * are tested before each input and once more after the last) takes no further one.
+ * told[i] gets 0 or the number of the input's refusal (ND110_RAISE_LEVEL, ND110_UNREAD), which leaves the machine as it
+ * was and does not end the run; of a read out the character, or ND110_NO_CHARACTER. *handed gets how many inputs were
+ * handed in; what told has for the others stays. A list of length 0 may be null.
+ * ND110_BAD_CALL, ND110_SIZES, ND110_STATE. */
+uint16_t nd110_run_with_input(uint16_t *state, size_t state_len, uint16_t *memory, size_t memory_len,
+                              uint16_t *tables, size_t tables_len, uint64_t n, const uint64_t *at, size_t at_len,
+                              const uint16_t *what, size_t what_len, uint16_t *told, size_t told_len,
+                              uint64_t *handed, uint64_t *steps, uint16_t *reason);
+
 /* The machine of an image: words, not bytes (an image file has the high byte first). Words that the image does not name
- * become 0. So images that earlier versions wrote load: 26 or 27 control words leave ND110_EXTENDED as 0, 26 leave
- * ND110_PGS_HELD as 0 too, and 256 page table words leave the other 256 as 0. The state's words before the call may be
- * any.
+ * become 0. So images that earlier versions wrote load: without words of kind 5 the devices are cleared, 26 or 27
+ * control words leave ND110_EXTENDED as 0, 26 leave ND110_PGS_HELD as 0 too, and 256 page table words leave the other
+ * 256 as 0. The state's words before the call may be any.
  * ND110_BAD_CALL, ND110_SIZES, ND110_CONTENTS to ND110_BODIES, ND110_STATE. */
 uint16_t nd110_load(uint16_t *state, size_t state_len, const uint16_t *image, size_t image_len,
                     uint16_t *memory, size_t memory_len, uint16_t *tables, size_t tables_len);

@@ -21,8 +21,11 @@ static nd110_state record;
 static uint16_t memory[4 * ND110_PAGE_WORDS], tables[ND110_TABLE_WORDS];
 static uint16_t out[WORDS(memory) + ND110_IMAGE_EXTRA];
 static uint16_t narrow[ND110_SHORT_WORDS], wide[ND110_LONG_WORDS];
-static uint16_t interrupt, reason, answer;
-static uint64_t steps;
+static const uint64_t at[4] = { 0, 0, 1, 1 };
+static const uint16_t what[4] = { 10, ND110_TICK, ND110_TYPED + 'A', ND110_READ_OUT };
+static uint16_t told[4];
+static uint16_t interrupt, reason, character, answer;
+static uint64_t steps, handed;
 
 /* The stack pointer of the caller, right before the call. */
 #define CALL(call)                                       \
@@ -37,6 +40,14 @@ static void do_run(void) { CALL(nd110_run(LENT(state), LENT(memory), LENT(tables
 static void do_to(void) { CALL(nd110_run_to_interrupt(LENT(state), LENT(memory), LENT(tables), 100, &steps, &reason)); }
 static void do_raise(void) { CALL(nd110_raise(LENT(state), 10, LENT(memory), LENT(tables))); }
 static void do_raise_lent(void) { CALL(nd110_raise_lent(&record, 10, LENT(memory), LENT(tables))); }
+static void do_tick(void) { CALL(nd110_tick(LENT(state), LENT(memory), LENT(tables))); }
+static void do_type(void) { CALL(nd110_type(LENT(state), 'A', LENT(memory), LENT(tables))); }
+static void do_read_out(void) { CALL(nd110_read_out(LENT(state), LENT(memory), LENT(tables), &character)); }
+static void do_with_input(void)
+{
+    CALL(nd110_run_with_input(LENT(state), LENT(memory), LENT(tables), 100, at, 4, what, 4, told, 4, &handed, &steps,
+                              &reason));
+}
 static void do_load(void) { CALL(nd110_load(LENT(state), LENT(out), LENT(memory), LENT(tables))); }
 static void do_write(void) { CALL(nd110_write(LENT(state), LENT(memory), LENT(tables), LENT(out))); }
 static void do_view(void) { CALL(nd110_view(ND110_MEMORY, 0, 8, LENT(memory), LENT(tables), LENT(out))); }
@@ -102,8 +113,14 @@ int main(void)
     show("nd110_run_to_interrupt", do_to);
     expect("the run to MON", steps == 5 && reason == ND110_INTERRUPTED);
     fill();
+    show("nd110_run_with_input", do_with_input);
+    expect("the run with input", steps == 5 && reason == ND110_INTERRUPTED && handed == 4);
+    fill();
     show("nd110_raise", do_raise);
     show("nd110_raise_lent", do_raise_lent);
+    show("nd110_tick", do_tick);
+    show("nd110_type", do_type);
+    show("nd110_read_out", do_read_out);
     show("nd110_write", do_write);
     show("nd110_load", do_load);
     show("nd110_view", do_view);

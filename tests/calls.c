@@ -1,9 +1,10 @@
 /*
  * Every function of include/nd110.h called through the archive, with arguments that cannot be taken for one another:
  * state, memory, page tables, image and output have different lengths, and the answers tell the numbers apart. What
- * must come is written by hand from document 01, of a paging fault that is held from document 02, card 3, of extended
- * mode and the largest memory from card 4, of the conversions from card 12. rust/nd110/tests/calls.rs is the same
- * through the Rust crate, with held.rs, extended.rs and largest.rs beside it.
+ * must come is written by hand from document 01, of console and clock from document 02, card 1, with document 000, of a
+ * paging fault that is held from card 3, of extended mode and the largest memory from card 4, of the conversions from
+ * card 12. rust/nd110/tests/calls.rs is the same through the Rust crate, with devices.rs, held.rs, extended.rs and
+ * largest.rs beside it.
  */
 #include "nd110.h"
 #include <stdio.h>
@@ -32,10 +33,12 @@ static struct machine m;
 #define MEMORY m.memory, WORDS(m.memory)
 #define TABLES m.tables, WORDS(m.tables)
 #define OUT m.out, WORDS(m.out)
+#define NO_INPUT NULL, 0, NULL, 0, NULL, 0
+#define TOLD &handed[1], &steps[1], &reason[1]
 
 /* Where the rest of an answer is told. A number that is written in a wrong width shows in the words beside it. */
-static uint16_t interrupt[5], reason[5];
-static uint64_t steps[3];
+static uint16_t interrupt[5], reason[5], character[5];
+static uint64_t steps[3], handed[3];
 
 static int failures;
 
@@ -114,7 +117,8 @@ enum {
     PGS = ND110_CONTROL(ND110_PGS),
     PCR_0 = ND110_CONTROL(ND110_PCR),
     HELD = ND110_CONTROL(ND110_PGS_HELD),
-    EXTENDED = ND110_CONTROL(ND110_EXTENDED)
+    EXTENDED = ND110_CONTROL(ND110_EXTENDED),
+    DEVICES = ND110_DEVICE(0)
 };
 
 /* Where a word is, by document 01 and not by the header. */
@@ -142,16 +146,35 @@ static void places(void)
     IS(PCR_0 + 15, 153);
     IS(HELD, 154);
     IS(EXTENDED, 155);
-    IS(ND110_STATE_WORDS, 156);
+    IS(DEVICES, 156);
+    IS(ND110_DEVICE(ND110_CLOCK_ENABLED), 156);
+    IS(ND110_DEVICE(ND110_CLOCK_READY), 157);
+    IS(ND110_DEVICE(ND110_CLOCK_ASKS), 158);
+    IS(ND110_DEVICE(ND110_INPUT_ENABLED), 159);
+    IS(ND110_DEVICE(ND110_INPUT_UNREAD), 160);
+    IS(ND110_DEVICE(ND110_INPUT_ASKS), 161);
+    IS(ND110_DEVICE(ND110_INPUT_CHARACTER), 162);
+    IS(ND110_DEVICE(ND110_INPUT_LENGTH), 163);
+    IS(ND110_DEVICE(ND110_OUTPUT_ENABLED), 164);
+    IS(ND110_DEVICE(ND110_OUTPUT_WAITS), 165);
+    IS(ND110_DEVICE(ND110_OUTPUT_ASKS), 166);
+    IS(ND110_DEVICE(ND110_OUTPUT_CHARACTER), 167);
+    IS(ND110_STATE_WORDS, 168);
     IS(ND110_TABLE_WORDS, 512);
     IS(ND110_MEMORY_MOST, 16777216);
-    IS(ND110_IMAGE_EXTRA, 689);
+    IS(ND110_IMAGE_EXTRA, 706);
+    IS(ND110_VERSION, 5);
+    IS(ND110_UNREAD, 11);
+    IS(ND110_TICK, 256);
+    IS(ND110_READ_OUT, 257);
+    IS(ND110_TYPED, 512);
+    IS(ND110_NO_CHARACTER, 256);
 }
 
 /* Where a field of the record is, by document 01 too: two bytes a word. */
 static void fields(void)
 {
-    IS(sizeof(nd110_state), 2 * 156);
+    IS(sizeof(nd110_state), 2 * 168);
     IS(offsetof(nd110_state, registers[0][0]), 2 * 0);
     IS(offsetof(nd110_state, registers[0][7]), 2 * 7);
     IS(offsetof(nd110_state, registers[2][5]), 2 * 21);
@@ -171,6 +194,18 @@ static void fields(void)
     IS(offsetof(nd110_state, pcr[15]), 2 * 153);
     IS(offsetof(nd110_state, pgs_held), 2 * 154);
     IS(offsetof(nd110_state, extended), 2 * 155);
+    IS(offsetof(nd110_state, clock_enabled), 2 * 156);
+    IS(offsetof(nd110_state, clock_ready), 2 * 157);
+    IS(offsetof(nd110_state, clock_asks), 2 * 158);
+    IS(offsetof(nd110_state, input_enabled), 2 * 159);
+    IS(offsetof(nd110_state, input_unread), 2 * 160);
+    IS(offsetof(nd110_state, input_asks), 2 * 161);
+    IS(offsetof(nd110_state, input_character), 2 * 162);
+    IS(offsetof(nd110_state, input_length), 2 * 163);
+    IS(offsetof(nd110_state, output_enabled), 2 * 164);
+    IS(offsetof(nd110_state, output_waits), 2 * 165);
+    IS(offsetof(nd110_state, output_asks), 2 * 166);
+    IS(offsetof(nd110_state, output_character), 2 * 167);
 }
 
 /* Every word lent holds something, so that what a call clears or leaves is seen. */
@@ -180,9 +215,9 @@ static void fill(void)
     for (size_t i = 0; i < sizeof(m) / sizeof(*word); i++)
         word[i] = GUARD;
     for (size_t i = 0; i < WORDS(reason); i++)
-        interrupt[i] = reason[i] = GUARD;
+        interrupt[i] = reason[i] = character[i] = GUARD;
     for (size_t i = 0; i < WORDS(steps); i++)
-        steps[i] = GUARD;
+        steps[i] = handed[i] = GUARD;
 }
 
 static void guards(void)
@@ -203,8 +238,14 @@ static void guards(void)
     IS(reason[2], GUARD);
     IS(reason[3], GUARD);
     IS(reason[4], GUARD);
+    IS(character[0], GUARD);
+    IS(character[2], GUARD);
+    IS(character[3], GUARD);
+    IS(character[4], GUARD);
     IS(steps[0], GUARD);
     IS(steps[2], GUARD);
+    IS(handed[0], GUARD);
+    IS(handed[2], GUARD);
 }
 
 static void loaded(void)
@@ -462,8 +503,8 @@ static void held_images(void)
     IS(nd110_load(RECORD, FAULTING, MEMORY, TABLES), 0);
     IS(nd110_run(RECORD, MEMORY, TABLES, 2, &steps[1], &reason[1]), 0);
     IS(nd110_write(RECORD, MEMORY, TABLES, m.out, IMAGE_WORDS), 0);
-    IS(m.out[21 + 2048 + 128 + 9], 0040102);
-    IS(m.out[21 + 2048 + 128 + 26], 1);
+    IS(m.out[26 + 2048 + 128 + 9], 0040102);
+    IS(m.out[26 + 2048 + 128 + 26], 1);
     IS(m.out[IMAGE_WORDS], GUARD);
     memcpy(copy, m.out, sizeof copy);
     fill();
@@ -506,26 +547,28 @@ static void viewed(void)
     guards();
 }
 
-/* Four full entries and their bodies; then loaded again, over other contents. */
+/* Five full entries and their bodies; then loaded again, over other contents. */
 static void written(void)
 {
     static const uint16_t contents[] = {
-        4, 1, 0, 0, 0, 2048, 2, 0, 0, 0, 128, 3, 0, 0, 0, 28, 4, 0, 0, 0, 512
+        5, 1, 0, 0, 0, 2048, 2, 0, 0, 0, 128, 3, 0, 0, 0, 28, 4, 0, 0, 0, 512, 5, 0, 0, 0, 12
     };
     static uint16_t copy[IMAGE_WORDS];
     stepped();
     IS(nd110_write(STATE, MEMORY, TABLES, OUT), 0);
     IS(memcmp(m.out, contents, sizeof contents), 0);
-    IS(memcmp(m.out + 21, program, sizeof program), 0);
-    IS(m.out[21 + 2048 + 2], 1);
-    IS(m.out[21 + 2048 + 5], 5);
-    IS(m.out[21 + 2048 + 21], 0321);
-    IS(m.out[21 + 2048 + 128 + 5], 010000);
-    IS(m.out[21 + 2048 + 128 + 26], 0);
-    IS(m.out[21 + 2048 + 128 + 27], 0);
-    IS(m.out[21 + 2048 + 128 + 28 + 3], 0111111);
-    IS(m.out[21 + 2048 + 128 + 28 + 511], 0);
-    IS(m.out[2737], GUARD);
+    IS(memcmp(m.out + 26, program, sizeof program), 0);
+    IS(m.out[26 + 2048 + 2], 1);
+    IS(m.out[26 + 2048 + 5], 5);
+    IS(m.out[26 + 2048 + 21], 0321);
+    IS(m.out[26 + 2048 + 128 + 5], 010000);
+    IS(m.out[26 + 2048 + 128 + 26], 0);
+    IS(m.out[26 + 2048 + 128 + 27], 0);
+    IS(m.out[26 + 2048 + 128 + 28 + 3], 0111111);
+    IS(m.out[26 + 2048 + 128 + 28 + 511], 0);
+    IS(m.out[26 + 2048 + 128 + 28 + 512], 0);
+    IS(m.out[2753], 0);
+    IS(m.out[2754], GUARD);
     ARE(m.state, { A_0, 5 }, { P_0, 1 }, { A_2, 0321 }, { PIE, 010000 }, { IIE, 020 });
     guards();
     memcpy(copy, m.out, sizeof copy);
@@ -541,21 +584,25 @@ static void written(void)
 static void refused(void)
 {
     static const uint16_t many[] = { 33 };
-    static const uint16_t kind[] = { 1, 5, 0, 0, 0, 0 };
+    static const uint16_t kind[] = { 1, 6, 0, 0, 0, 0 };
     static const uint16_t target[] = { 1, 4, 0, 512, 0, 1, 0 };
     static const uint16_t overlap[] = { 2, 1, 0, 0, 0, 2, 1, 0, 1, 0, 1, 0, 0, 0 };
     static const uint16_t sts[] = { 1, 2, 0, 0, 0, 1, 0400 };
     static const uint16_t past[] = { 1, 3, 0, 28, 0, 1, 0 };
+    static const uint16_t devices_past[] = { 1, 5, 0, 12, 0, 1, 0 };
     static const uint16_t held_2[] = { 1, 3, 0, 26, 0, 1, 2 };
     static const uint16_t extended_2[] = { 1, 3, 0, 27, 0, 1, 2 };
-    static const size_t states[] = { 154, 155, 157 }, tables[] = { 0, 255, 256, 511, 513 };
+    static const size_t states[] = { 0, 154, 155, 156, 167, 169 }, tables[] = { 0, 255, 256, 511, 513 };
+    static const uint64_t at[2] = { 0, 0 };
+    static const uint16_t what[2] = { 10, 10 };
+    static uint16_t told[2] = { 077, 077 };
     static struct machine was;
     const uint16_t *nowhere = NULL;
     nd110_state *none = NULL;
     loaded();
     memcpy(&m.record, m.state, sizeof m.record);
-    interrupt[1] = reason[1] = 077;
-    steps[1] = 0777;
+    interrupt[1] = reason[1] = character[1] = 077;
+    steps[1] = handed[1] = 0777;
     was = m;
     for (size_t i = 0; i < WORDS(states); i++) {
         size_t len = states[i];
@@ -565,6 +612,18 @@ static void refused(void)
         IS(nd110_raise(m.state, len, 10, MEMORY, TABLES), 255);
         IS(nd110_load(m.state, len, IMAGE, MEMORY, TABLES), 255);
         IS(nd110_write(m.state, len, MEMORY, TABLES, OUT), 255);
+        IS(nd110_tick(m.state, len, MEMORY, TABLES), 255);
+        IS(nd110_type(m.state, len, 0101, MEMORY, TABLES), 255);
+        IS(nd110_read_out(m.state, len, MEMORY, TABLES, &character[1]), 255);
+        IS(nd110_run_with_input(m.state, len, MEMORY, TABLES, 10, at, 2, what, 2, told, 2, TOLD), 255);
+    }
+    /* the three lists have one length */
+    for (size_t i = 0; i < 27; i++) {
+        size_t first = i % 3, second = i / 3 % 3, third = i / 9;
+        if (first != second || second != third) {
+            IS(nd110_run_with_input(STATE, MEMORY, TABLES, 10, at, first, what, second, told, third, TOLD), 255);
+            IS(nd110_run_with_input(STATE, m.memory, 0, TABLES, 10, at, first, what, second, told, third, TOLD), 255);
+        }
     }
     for (size_t len = 0; len <= 2047; len += 2047) {
         IS(nd110_step(STATE, m.memory, len, TABLES, &interrupt[1]), 1);
@@ -575,6 +634,10 @@ static void refused(void)
         IS(nd110_raise(STATE, 10, m.memory, len, TABLES), 1);
         IS(nd110_load(STATE, IMAGE, m.memory, len, TABLES), 1);
         IS(nd110_write(STATE, m.memory, len, TABLES, OUT), 1);
+        IS(nd110_tick(STATE, m.memory, len, TABLES), 1);
+        IS(nd110_type(STATE, 0101, m.memory, len, TABLES), 1);
+        IS(nd110_read_out(STATE, m.memory, len, TABLES, &character[1]), 1);
+        IS(nd110_run_with_input(STATE, m.memory, len, TABLES, 10, at, 2, what, 2, told, 2, TOLD), 1);
         IS(nd110_view(1, 0, 1, m.memory, len, TABLES, OUT), 1);
         IS(nd110_view_answer(1, 0, 1, m.memory, len, TABLES), 1);
     }
@@ -588,6 +651,10 @@ static void refused(void)
         IS(nd110_raise(STATE, 10, MEMORY, m.tables, len), 1);
         IS(nd110_load(STATE, IMAGE, MEMORY, m.tables, len), 1);
         IS(nd110_write(STATE, MEMORY, m.tables, len, OUT), 1);
+        IS(nd110_tick(STATE, MEMORY, m.tables, len), 1);
+        IS(nd110_type(STATE, 0101, MEMORY, m.tables, len), 1);
+        IS(nd110_read_out(STATE, MEMORY, m.tables, len, &character[1]), 1);
+        IS(nd110_run_with_input(STATE, MEMORY, m.tables, len, 10, at, 2, what, 2, told, 2, TOLD), 1);
         IS(nd110_view(1, 0, 1, MEMORY, m.tables, len, OUT), 1);
         IS(nd110_view_answer(1, 0, 1, MEMORY, m.tables, len), 1);
     }
@@ -606,12 +673,13 @@ static void refused(void)
     IS(nd110_load(STATE, kind, WORDS(kind), MEMORY, TABLES), 5);
     IS(nd110_load(STATE, target, WORDS(target), MEMORY, TABLES), 6);
     IS(nd110_load(STATE, past, WORDS(past), MEMORY, TABLES), 6);
+    IS(nd110_load(STATE, devices_past, WORDS(devices_past), MEMORY, TABLES), 6);
     IS(nd110_load(STATE, overlap, WORDS(overlap), MEMORY, TABLES), 7);
     IS(nd110_load(STATE, image, WORDS(image) - 1, MEMORY, TABLES), 8);
     IS(nd110_load(STATE, sts, WORDS(sts), MEMORY, TABLES), 2);
     IS(nd110_load(STATE, held_2, WORDS(held_2), MEMORY, TABLES), 2);
     IS(nd110_load(STATE, extended_2, WORDS(extended_2), MEMORY, TABLES), 2);
-    IS(nd110_write(STATE, MEMORY, TABLES, m.out, MEMORY_WORDS + 688), 10);
+    IS(nd110_write(STATE, MEMORY, TABLES, m.out, MEMORY_WORDS + 705), 10);
     IS(nd110_view(2, 0, 1, MEMORY, TABLES, OUT), 255);
     IS(nd110_view(1, 0, 2, MEMORY, TABLES, m.out, 1), 255);
     IS(nd110_view(1, 2048, 1, MEMORY, TABLES, OUT), 9);
@@ -631,26 +699,50 @@ static void refused(void)
     IS(nd110_run_to_interrupt(STATE, MEMORY, TABLES, 10, &steps[1], &reason[1]), 2);
     IS(nd110_raise(STATE, 10, MEMORY, TABLES), 2);
     IS(nd110_write(STATE, MEMORY, TABLES, OUT), 2);
+    IS(nd110_tick(STATE, MEMORY, TABLES), 2);
+    IS(nd110_type(STATE, 0101, MEMORY, TABLES), 2);
+    IS(nd110_read_out(STATE, MEMORY, TABLES, &character[1]), 2);
+    IS(nd110_run_with_input(STATE, MEMORY, TABLES, 10, at, 2, what, 2, told, 2, TOLD), 2);
     IS(memcmp(&m, &was, sizeof m), 0);
     IS(interrupt[1], 077);
     IS(reason[1], 077);
+    IS(character[1], 077);
+    IS(told[0], 077);
+    IS(told[1], 077);
     IS(steps[1], 0777);
+    IS(handed[1], 0777);
     guards();
 }
 
-/* Whether PGS is held, and the extended flag, are 0 or 1: every function that tests the state refuses others, and no
- * lent word changes. */
-static void refused_flags(void)
+/* The most that a word may be: whether PGS is held, the extended flag, and the devices' words. */
+static const struct word ranges[] = {
+    { HELD, 1 }, { EXTENDED, 1 }, { 156, 1 }, { 157, 1 }, { 158, 1 }, { 159, 1 }, { 160, 1 }, { 161, 1 }, { 162, 255 },
+    { 163, 3 }, { 164, 1 }, { 165, 1 }, { 166, 1 }, { 167, 255 },
+};
+
+/* Every function that tests the state refuses one more, and others, and no lent word changes; load refuses the same of
+ * an image. The most is taken. */
+static void refused_words(void)
 {
-    static const uint16_t wrong[] = { 2, 3, 0100000, 0177777 };
+    static const uint16_t more[] = { 1, 2, 0100000, 0177400 };
+    static const uint64_t at_0[1] = { 0 };
+    static const uint16_t tick[1] = { 256 };
+    static uint16_t told[1] = { 077 };
     static struct machine was;
-    for (size_t i = 0; i < 2 * WORDS(wrong); i++) {
-        size_t at = i % 2 ? EXTENDED : HELD;
+    for (size_t i = 0; i < WORDS(ranges) * WORDS(more); i++) {
+        size_t at = ranges[i / WORDS(more)].at;
+        uint16_t most = ranges[i / WORDS(more)].value, wrong = (uint16_t)(most + more[i % WORDS(more)]);
+        uint16_t named[7] = { 1, 3, 0, (uint16_t)(at - 128), 0, 1, wrong };
+        if (at >= 156) {
+            named[1] = 5;
+            named[3] = (uint16_t)(at - 156);
+        }
         loaded();
-        m.state[at] = wrong[i / 2];
+        IS(nd110_load(STATE, named, 7, MEMORY, TABLES), 2);
+        m.state[at] = wrong;
         memcpy(&m.record, m.state, sizeof m.record);
-        interrupt[1] = reason[1] = 077;
-        steps[1] = 0777;
+        interrupt[1] = reason[1] = character[1] = 077;
+        steps[1] = handed[1] = 0777;
         was = m;
         IS(nd110_step(STATE, MEMORY, TABLES, &interrupt[1]), 2);
         IS(nd110_step_lent(&m.record, MEMORY, TABLES, &interrupt[1]), 2);
@@ -661,16 +753,334 @@ static void refused_flags(void)
         IS(nd110_raise_lent(&m.record, 10, MEMORY, TABLES), 2);
         IS(nd110_write(STATE, MEMORY, TABLES, OUT), 2);
         IS(nd110_write(RECORD, MEMORY, TABLES, OUT), 2);
+        IS(nd110_tick(STATE, MEMORY, TABLES), 2);
+        IS(nd110_type(STATE, 0101, MEMORY, TABLES), 2);
+        IS(nd110_read_out(STATE, MEMORY, TABLES, &character[1]), 2);
+        IS(nd110_run_with_input(STATE, MEMORY, TABLES, 10, at_0, 1, tick, 1, told, 1, TOLD), 2);
         IS(memcmp(&m, &was, sizeof m), 0);
         IS(interrupt[1], 077);
         IS(reason[1], 077);
+        IS(character[1], 077);
+        IS(told[0], 077);
         IS(steps[1], 0777);
+        IS(handed[1], 0777);
         guards();
-        m.state[at] = 1;
+        m.state[at] = most;
         memcpy(&m.record, m.state, sizeof m.record);
         IS(nd110_step(STATE, MEMORY, TABLES, &interrupt[1]), 0);
+        IS(m.state[at], most);
         IS(nd110_raise_lent(&m.record, 10, MEMORY, TABLES), 0);
+        named[6] = most;
+        IS(nd110_load(STATE, named, 7, MEMORY, TABLES), 0);
+        ARE(m.state, { at, most });
     }
+}
+
+/* What is done to a machine in a row of `done` below. */
+enum deed { IOX, IOXT, IDENT, TICKED, TYPED, READ };
+
+/* The registers of both devices, in the order of document 000, 6.9. A row has the deed; the address, the level code or
+ * the character; A before it, of IOX, IOXT and IDENT; what is told, the interrupt, the answer or the character read
+ * out; A and PID after it; and the devices' words after it, clock, input and output. PID is 0 before each. */
+static const struct {
+    enum deed deed;
+    uint16_t which, a, told, after, pid, words[12];
+} done[] = {
+    /* cleared: nothing is enabled, output is ready */
+    { IOX, 0012, 0123456, 0, 0, 0, { 0, 0, 0, 0, 0, 0, 0, 0, 0, 0, 0, 0 } },
+    { IOX, 0302, 0123456, 0, 0, 0, { 0, 0, 0, 0, 0, 0, 0, 0, 0, 0, 0, 0 } },
+    { IOX, 0306, 0123456, 0, 010, 0, { 0, 0, 0, 0, 0, 0, 0, 0, 0, 0, 0, 0 } },
+    { IOX, 0300, 0123456, 0, 0, 0, { 0, 0, 0, 0, 0, 0, 0, 0, 0, 0, 0, 0 } },
+    { READ, 0, 0, 256, 0, 0, { 0, 0, 0, 0, 0, 0, 0, 0, 0, 0, 0, 0 } },
+    /* the clock: a tick while it is disabled, enabled afterwards */
+    { IOX, 0013, 0177776, 0, 0177776, 0, { 0, 0, 0, 0, 0, 0, 0, 0, 0, 0, 0, 0 } },
+    { TICKED, 0, 0, 0, 0177776, 0, { 0, 1, 0, 0, 0, 0, 0, 0, 0, 0, 0, 0 } },
+    { IOX, 0012, 0123456, 0, 010, 0, { 0, 1, 0, 0, 0, 0, 0, 0, 0, 0, 0, 0 } },
+    { IOX, 0013, 1, 0, 1, 020000, { 1, 1, 1, 0, 0, 0, 0, 0, 0, 0, 0, 0 } },
+    { IOX, 0012, 0123456, 0, 011, 0, { 1, 1, 1, 0, 0, 0, 0, 0, 0, 0, 0, 0 } },
+    { TICKED, 0, 0, 0, 011, 020000, { 1, 1, 1, 0, 0, 0, 0, 0, 0, 0, 0, 0 } },
+    { IDENT, 043, 0123456, 0, 1, 0, { 1, 1, 0, 0, 0, 0, 0, 0, 0, 0, 0, 0 } },
+    { IDENT, 043, 0123456, 7, 0123456, 0, { 1, 1, 0, 0, 0, 0, 0, 0, 0, 0, 0, 0 } },
+    { IOX, 0013, 020001, 0, 020001, 0, { 1, 0, 0, 0, 0, 0, 0, 0, 0, 0, 0, 0 } },
+    { TICKED, 0, 0, 0, 020001, 020000, { 1, 1, 1, 0, 0, 0, 0, 0, 0, 0, 0, 0 } },
+    { IOX, 0013, 020000, 0, 020000, 0, { 0, 0, 1, 0, 0, 0, 0, 0, 0, 0, 0, 0 } },
+    { IOX, 0010, 0123456, 0, 0, 0, { 0, 0, 1, 0, 0, 0, 0, 0, 0, 0, 0, 0 } },
+    { IOX, 0011, 0123456, 0, 0123456, 0, { 0, 0, 1, 0, 0, 0, 0, 0, 0, 0, 0, 0 } },
+    { IDENT, 022, 0123456, 7, 0123456, 0, { 0, 0, 1, 0, 0, 0, 0, 0, 0, 0, 0, 0 } },
+    { IDENT, 004, 0123456, 7, 0123456, 0, { 0, 0, 1, 0, 0, 0, 0, 0, 0, 0, 0, 0 } },
+    { IDENT, 043, 0123456, 0, 1, 0, { 0, 0, 0, 0, 0, 0, 0, 0, 0, 0, 0, 0 } },
+    /* input: a character while it is disabled, then enabled, in 5 bits; in 7 and in 6 bits */
+    { TYPED, 0301, 0, 0, 1, 0, { 0, 0, 0, 0, 1, 0, 0301, 0, 0, 0, 0, 0 } },
+    { TYPED, 0302, 0, 11, 1, 0, { 0, 0, 0, 0, 1, 0, 0301, 0, 0, 0, 0, 0 } },
+    { IOX, 0302, 0123456, 0, 010, 0, { 0, 0, 0, 0, 1, 0, 0301, 0, 0, 0, 0, 0 } },
+    { IOX, 0303, 014001, 0, 014001, 010000, { 0, 0, 0, 1, 1, 1, 0301, 3, 0, 0, 0, 0 } },
+    { IOX, 0302, 0123456, 0, 011, 0, { 0, 0, 0, 1, 1, 1, 0301, 3, 0, 0, 0, 0 } },
+    { IOX, 0300, 0123456, 0, 1, 0, { 0, 0, 0, 1, 0, 1, 0301, 3, 0, 0, 0, 0 } },
+    { IOX, 0302, 0123456, 0, 1, 0, { 0, 0, 0, 1, 0, 1, 0301, 3, 0, 0, 0, 0 } },
+    { IOX, 0300, 0123456, 0, 1, 0, { 0, 0, 0, 1, 0, 1, 0301, 3, 0, 0, 0, 0 } },
+    { IDENT, 022, 0123456, 0, 1, 0, { 0, 0, 0, 1, 0, 0, 0301, 3, 0, 0, 0, 0 } },
+    { TYPED, 0377, 0, 0, 1, 010000, { 0, 0, 0, 1, 1, 1, 0377, 3, 0, 0, 0, 0 } },
+    { IOX, 0303, 0163776, 0, 0163776, 0, { 0, 0, 0, 0, 1, 1, 0377, 0, 0, 0, 0, 0 } },
+    { IOX, 0303, 004000, 0, 004000, 0, { 0, 0, 0, 0, 1, 1, 0377, 1, 0, 0, 0, 0 } },
+    { IOX, 0300, 0123456, 0, 0177, 0, { 0, 0, 0, 0, 0, 1, 0377, 1, 0, 0, 0, 0 } },
+    { IOX, 0301, 0123456, 0, 0123456, 0, { 0, 0, 0, 0, 0, 1, 0377, 1, 0, 0, 0, 0 } },
+    { IOX, 0303, 010001, 0, 010001, 0, { 0, 0, 0, 1, 0, 1, 0377, 2, 0, 0, 0, 0 } },
+    { IOX, 0300, 0123456, 0, 077, 0, { 0, 0, 0, 1, 0, 1, 0377, 2, 0, 0, 0, 0 } },
+    /* output: in 6 bits; one that waited is gone; enabled while one waits */
+    { IOX, 0305, 0177777, 0, 0177777, 0, { 0, 0, 0, 1, 0, 1, 0377, 2, 0, 1, 0, 077 } },
+    { IOX, 0306, 0123456, 0, 0, 0, { 0, 0, 0, 1, 0, 1, 0377, 2, 0, 1, 0, 077 } },
+    { IOX, 0303, 0, 0, 0, 0, { 0, 0, 0, 0, 0, 1, 0377, 0, 0, 1, 0, 077 } },
+    { IOX, 0305, 0177552, 0, 0177552, 0, { 0, 0, 0, 0, 0, 1, 0377, 0, 0, 1, 0, 0152 } },
+    { IOX, 0307, 1, 0, 1, 0, { 0, 0, 0, 0, 0, 1, 0377, 0, 1, 1, 0, 0152 } },
+    { IOX, 0306, 0123456, 0, 1, 0, { 0, 0, 0, 0, 0, 1, 0377, 0, 1, 1, 0, 0152 } },
+    { READ, 0, 0, 0152, 1, 002000, { 0, 0, 0, 0, 0, 1, 0377, 0, 1, 0, 1, 0152 } },
+    { READ, 0, 0, 256, 1, 0, { 0, 0, 0, 0, 0, 1, 0377, 0, 1, 0, 1, 0152 } },
+    { IOX, 0306, 0123456, 0, 011, 0, { 0, 0, 0, 0, 0, 1, 0377, 0, 1, 0, 1, 0152 } },
+    { IDENT, 004, 0123456, 0, 1, 0, { 0, 0, 0, 0, 0, 1, 0377, 0, 1, 0, 0, 0152 } },
+    { IOX, 0307, 0177777, 0, 0177777, 002000, { 0, 0, 0, 0, 0, 1, 0377, 0, 1, 0, 1, 0152 } },
+    { IOX, 0307, 0177776, 0, 0177776, 0, { 0, 0, 0, 0, 0, 1, 0377, 0, 0, 0, 1, 0152 } },
+    { IOX, 0305, 0, 0, 0, 0, { 0, 0, 0, 0, 0, 1, 0377, 0, 0, 1, 1, 0 } },
+    { READ, 0, 0, 0, 0, 0, { 0, 0, 0, 0, 0, 1, 0377, 0, 0, 0, 1, 0 } },
+    { IOX, 0304, 0123456, 0, 0, 0, { 0, 0, 0, 0, 0, 1, 0377, 0, 0, 0, 1, 0 } },
+    /* by T, all sixteen bits */
+    { IOXT, 0306, 0123456, 0, 010, 0, { 0, 0, 0, 0, 0, 1, 0377, 0, 0, 0, 1, 0 } },
+    { IOXT, 0013, 1, 0, 1, 0, { 1, 0, 0, 0, 0, 1, 0377, 0, 0, 0, 1, 0 } },
+    { IOXT, 0004013, 0, 7, 0, 0, { 1, 0, 0, 0, 0, 1, 0377, 0, 0, 0, 1, 0 } },
+    { IOXT, 0100300, 0123456, 7, 0123456, 0, { 1, 0, 0, 0, 0, 1, 0377, 0, 0, 0, 1, 0 } },
+    /* the addresses beside the twelve, and IDENT of what no device answers */
+    { IOX, 0007, 0123456, 7, 0123456, 0, { 1, 0, 0, 0, 0, 1, 0377, 0, 0, 0, 1, 0 } },
+    { IOX, 0014, 0123456, 7, 0123456, 0, { 1, 0, 0, 0, 0, 1, 0377, 0, 0, 0, 1, 0 } },
+    { IOX, 0277, 0123456, 7, 0123456, 0, { 1, 0, 0, 0, 0, 1, 0377, 0, 0, 0, 1, 0 } },
+    { IOX, 0310, 0123456, 7, 0123456, 0, { 1, 0, 0, 0, 0, 1, 0377, 0, 0, 0, 1, 0 } },
+    { IOX, 02306, 0123456, 7, 0123456, 0, { 1, 0, 0, 0, 0, 1, 0377, 0, 0, 0, 1, 0 } },
+    { IOX, 03777, 0123456, 7, 0123456, 0, { 1, 0, 0, 0, 0, 1, 0377, 0, 0, 0, 1, 0 } },
+    { IDENT, 011, 0123456, 7, 0123456, 0, { 1, 0, 0, 0, 0, 1, 0377, 0, 0, 0, 1, 0 } },
+    { IDENT, 000, 0123456, 7, 0123456, 0, { 1, 0, 0, 0, 0, 1, 0377, 0, 0, 0, 1, 0 } },
+    { IDENT, 077, 0123456, 7, 0123456, 0, { 1, 0, 0, 0, 0, 1, 0377, 0, 0, 0, 1, 0 } },
+    { IDENT, 004, 0123456, 0, 1, 0, { 1, 0, 0, 0, 0, 1, 0377, 0, 0, 0, 0, 0 } },
+    { IDENT, 022, 0123456, 0, 1, 0, { 1, 0, 0, 0, 0, 0, 0377, 0, 0, 0, 0, 0 } },
+};
+
+/* The devices' words of a row. */
+#define DEVICES_ARE(w)                                                                               \
+    { 156, (w)[0] }, { 157, (w)[1] }, { 158, (w)[2] }, { 159, (w)[3] }, { 160, (w)[4] },             \
+    { 161, (w)[5] }, { 162, (w)[6] }, { 163, (w)[7] }, { 164, (w)[8] }, { 165, (w)[9] },             \
+    { 166, (w)[10] }, { 167, (w)[11] }
+
+/* The word that is executed in a row; IOXT has its address in T. */
+static uint16_t executed(size_t i)
+{
+    switch (done[i].deed) {
+    case IOX:
+        return (uint16_t)(0164000 + done[i].which);
+    case IOXT:
+        return 0150415;
+    default:
+        return (uint16_t)(0143600 + done[i].which);
+    }
+}
+
+/* A row on words and on the record, which are the same machine. Told is what both gave. */
+static void deed(size_t i)
+{
+    uint16_t which = done[i].which;
+    switch (done[i].deed) {
+    case TICKED:
+        IS(nd110_tick(STATE, MEMORY, TABLES), 0);
+        IS(nd110_tick(RECORD, MEMORY, TABLES), 0);
+        return;
+    case TYPED:
+        IS(nd110_type(STATE, (uint8_t)which, MEMORY, TABLES), done[i].told);
+        IS(nd110_type(RECORD, (uint8_t)which, MEMORY, TABLES), done[i].told);
+        return;
+    case READ:
+        IS(nd110_read_out(STATE, MEMORY, TABLES, &character[1]), 0);
+        IS(character[1], done[i].told);
+        IS(nd110_read_out(RECORD, MEMORY, TABLES, &character[3]), 0);
+        IS(character[3], done[i].told);
+        character[3] = GUARD;
+        return;
+    default:
+        IS(nd110_step(STATE, MEMORY, TABLES, &interrupt[1]), 0);
+        IS(interrupt[1], done[i].told);
+        IS(nd110_step_lent(&m.record, MEMORY, TABLES, &interrupt[1]), 0);
+        IS(interrupt[1], done[i].told);
+        return;
+    }
+}
+
+/* An image that names nothing: a cleared machine. */
+static const uint16_t cleared[] = { 0 };
+
+/* One machine through all of them. */
+static void registers(void)
+{
+    uint16_t p = 0, t = 0, iid = 0;
+    fill();
+    IS(nd110_load(STATE, cleared, WORDS(cleared), MEMORY, TABLES), 0);
+    IS(nd110_load(RECORD, cleared, WORDS(cleared), MEMORY, TABLES), 0);
+    for (size_t i = 0; i < WORDS(done); i++) {
+        m.state[PID] = m.record.pid = 0;
+        if (done[i].deed <= IDENT) {
+            m.state[A_0] = m.record.registers[0][ND110_A] = done[i].a;
+            if (done[i].deed == IOXT)
+                t = m.state[T_0] = m.record.registers[0][ND110_T] = done[i].which;
+            m.memory[p++] = executed(i);
+            if (done[i].told == 7)
+                iid = 0200;
+        }
+        deed(i);
+        ARE(m.state, { A_0, done[i].after }, { P_0, p }, { T_0, t }, { PID, done[i].pid }, { IID, iid },
+            DEVICES_ARE(done[i].words));
+        RECORD_IS({ A_0, done[i].after }, { P_0, p }, { T_0, t }, { PID, done[i].pid }, { IID, iid },
+                  DEVICES_ARE(done[i].words));
+        for (size_t k = p; k < MEMORY_WORDS; k++)
+            IS(m.memory[k], 0);
+        ARE(m.tables, { 0, 0 });
+        guards();
+    }
+    IS(m.record.clock_enabled, 1);
+    IS(m.record.input_character, 0377);
+}
+
+/* A raise is no device's asking: IDENT gives 7. And on a stopped machine all three are taken. */
+static void idents(void)
+{
+    static const uint16_t levels[][2] = { { 10, 0143604 }, { 11, 0143611 }, { 12, 0143622 }, { 13, 0143643 } };
+    for (size_t i = 0; i < WORDS(levels); i++) {
+        loaded();
+        m.memory[0] = levels[i][1];
+        IS(nd110_raise(STATE, levels[i][0], MEMORY, TABLES), 0);
+        IS(nd110_step(STATE, MEMORY, TABLES, &interrupt[1]), 0);
+        IS(interrupt[1], 7);
+        ARE(m.state, { P_0, 1 }, { A_2, 0321 }, { PID, (uint16_t)(1u << levels[i][0]) }, { PIE, 010000 }, { IID, 0200 },
+            { IIE, 020 });
+    }
+    loaded();
+    m.state[STOPPED] = m.state[156] = m.state[159] = m.state[164] = m.state[165] = 1;
+    m.state[167] = 0303;
+    IS(nd110_tick(STATE, MEMORY, TABLES), 0);
+    IS(nd110_type(STATE, 0, MEMORY, TABLES), 0);
+    IS(nd110_read_out(STATE, MEMORY, TABLES, &character[1]), 0);
+    IS(character[1], 0303);
+    ARE(m.state, { A_2, 0321 }, { STOPPED, 1 }, { PID, 032000 }, { PIE, 010000 }, { IIE, 020 }, { 156, 1 }, { 157, 1 },
+        { 158, 1 }, { 159, 1 }, { 160, 1 }, { 161, 1 }, { 164, 1 }, { 166, 1 }, { 167, 0303 });
+    ARE(m.memory, PROGRAM);
+    guards();
+}
+
+/* An echo with neither interrupts nor test of the output: IOX 302, BSKP ONE 30 DA, JMP *-2, IOX 300, IOX 305,
+ * JMP *-5. */
+static const uint16_t echo[] = { 1, 1, 0, 0, 0, 6, 0164302, 0175235, 0124376, 0164300, 0164305, 0124373 };
+#define ECHO                                                                                         \
+    { 0, 0164302 }, { 1, 0175235 }, { 2, 0124376 }, { 3, 0164300 }, { 4, 0164305 }, { 5, 0124373 }
+
+/* Twelve steps of it. The loop of three is left with the third reading of the status, step 7; step 9 reads the
+ * character, 10 sends it, 11 jumps back. The fifth input's step is passed: it is handed in after the one before it. The
+ * last two are not handed in: one is for step 13, the other is behind it. */
+static void inputs(void)
+{
+    static const uint64_t at[] = { 0, 0, 4, 4, 2, 4, 4, 4, 4, 4, 10, 10, 12, 13, 5 };
+    static const uint16_t what[] = {
+        257, 256, 512 + 0101, 512 + 0102, 11, 14, 0, 258, 511, 768, 257, 257, 512 + 0377, 256, 256
+    };
+    static const uint16_t telling[] = { 256, 0, 0, 11, 0, 3, 3, 3, 3, 3, 0101, 256, 0, GUARD, GUARD };
+    uint16_t told[WORDS(at)];
+    for (size_t i = 0; i < WORDS(told); i++)
+        told[i] = GUARD;
+    fill();
+    IS(nd110_load(STATE, echo, WORDS(echo), MEMORY, TABLES), 0);
+    IS(nd110_run_with_input(STATE, MEMORY, TABLES, 12, at, WORDS(at), what, WORDS(what), told, WORDS(told), TOLD), 0);
+    IS(handed[1], 13);
+    IS(steps[1], 12);
+    IS(reason[1], 2);
+    IS(memcmp(told, telling, sizeof told), 0);
+    ARE(m.state, { P_0, 1 }, { PID, 004000 }, { 157, 1 }, { 160, 1 }, { 162, 0377 }, { 167, 0101 });
+    ARE(m.memory, ECHO);
+    ARE(m.tables, { 0, 0 });
+    guards();
+    /* without input it is the run to the first interrupt; on a record too */
+    IS(nd110_load(RECORD, echo, WORDS(echo), MEMORY, TABLES), 0);
+    IS(nd110_run_with_input(RECORD, MEMORY, TABLES, 7, NO_INPUT, TOLD), 0);
+    IS(handed[1], 0);
+    IS(steps[1], 7);
+    IS(reason[1], 2);
+    RECORD_IS({ P_0, 1 });
+    guards();
+}
+
+/* Why a run with input ends, and which inputs it has taken then. Each list has a tick or a raise of level 11, then a
+ * tick for the same step. The machine executes WAIT, a word that is no instruction, or SAA 5; PIE has level 11. */
+static void ended(void)
+{
+    static const struct {
+        uint16_t word, first, on, stopped, asked, at, handed, steps, reason, p, a, pid, iid, ready;
+    } ends[] = {
+        { 0151000, 256, 0, 0, 10, 1, 0, 1, 0, 1, 0, 0, 0, 0 },
+        { 0160000, 256, 0, 0, 10, 1, 0, 1, 3, 1, 0, 0, 020, 0 },
+        { 0170405, 11, 1, 0, 10, 1, 1, 1, 1, 1, 5, 004000, 0, 0 },
+        { 0170405, 256, 1, 0, 1, 1, 2, 1, 2, 1, 5, 0, 0, 1 },
+        { 0170405, 11, 1, 0, 1, 1, 1, 1, 1, 1, 5, 004000, 0, 0 },
+        { 0170405, 256, 0, 1, 10, 0, 0, 0, 0, 0, 0, 0, 0, 0 },
+        { 0170405, 256, 0, 0, 1, 2, 0, 1, 2, 1, 5, 0, 0, 0 },
+        { 0170405, 256, 0, 0, 0, 0, 2, 0, 2, 0, 0, 0, 0, 1 },
+    };
+    for (size_t i = 0; i < WORDS(ends); i++) {
+        const uint64_t at[2] = { ends[i].at, ends[i].at };
+        const uint16_t what[2] = { ends[i].first, 256 };
+        uint16_t told[4] = { GUARD, GUARD, GUARD, GUARD };
+        fill();
+        IS(nd110_load(STATE, echo, WORDS(echo), MEMORY, TABLES), 0);
+        m.memory[0] = ends[i].word;
+        m.state[ION] = ends[i].on;
+        m.state[STOPPED] = ends[i].stopped;
+        m.state[PIE] = 004000;
+        IS(nd110_run_with_input(STATE, MEMORY, TABLES, ends[i].asked, at, 2, what, 2, told + 1, 2, TOLD), 0);
+        IS(handed[1], ends[i].handed);
+        IS(steps[1], ends[i].steps);
+        IS(reason[1], ends[i].reason);
+        IS(told[0], GUARD);
+        IS(told[1], ends[i].handed > 0 ? 0 : GUARD);
+        IS(told[2], ends[i].handed > 1 ? 0 : GUARD);
+        IS(told[3], GUARD);
+        ARE(m.state, { A_0, ends[i].a }, { P_0, ends[i].p }, { ION, ends[i].on }, { PID, ends[i].pid }, { PIE, 004000 },
+            { IID, ends[i].iid }, { STOPPED, ends[i].reason == 0 }, { 157, ends[i].ready });
+        guards();
+    }
+}
+
+/* Kind 5: twelve words, each at its place; written as the fifth entry and loaded again; an image without them clears
+ * them, one with some clears the others. */
+static void device_images(void)
+{
+    static const uint16_t all[] = { 1, 5, 0, 0, 0, 12, 1, 0, 1, 1, 0, 1, 0301, 3, 0, 1, 1, 0177 };
+    static const uint16_t some[] = { 1, 5, 0, 6, 0, 2, 0377, 2 };
+    static const uint16_t twice[] = { 2, 5, 0, 0, 0, 2, 5, 0, 1, 0, 1, 0, 0, 0 };
+    static const uint16_t beyond[] = { 1, 5, 0, 0, 0, 13, 0, 0, 0, 0, 0, 0, 0, 0, 0, 0, 0, 0, 0 };
+    static uint16_t copy[IMAGE_WORDS];
+    fill();
+    IS(nd110_load(RECORD, all, WORDS(all), MEMORY, TABLES), 0);
+    RECORD_IS({ 156, 1 }, { 158, 1 }, { 159, 1 }, { 161, 1 }, { 162, 0301 }, { 163, 3 }, { 165, 1 }, { 166, 1 },
+              { 167, 0177 });
+    IS(m.record.input_length, 3);
+    IS(m.record.output_asks, 1);
+    IS(nd110_write(RECORD, MEMORY, TABLES, m.out, IMAGE_WORDS), 0);
+    IS(memcmp(m.out + 21, all + 1, 2 * 5), 0);
+    IS(memcmp(m.out + IMAGE_WORDS - 12, all + 6, 2 * 12), 0);
+    IS(m.out[IMAGE_WORDS], GUARD);
+    memcpy(copy, m.out, sizeof copy);
+    fill();
+    IS(nd110_load(STATE, copy, WORDS(copy), MEMORY, TABLES), 0);
+    ARE(m.state, { 156, 1 }, { 158, 1 }, { 159, 1 }, { 161, 1 }, { 162, 0301 }, { 163, 3 }, { 165, 1 }, { 166, 1 },
+        { 167, 0177 });
+    IS(nd110_load(STATE, twice, WORDS(twice), MEMORY, TABLES), 7);
+    IS(nd110_load(STATE, beyond, WORDS(beyond), MEMORY, TABLES), 6);
+    IS(m.state[162], 0301);
+    IS(nd110_load(STATE, some, WORDS(some), MEMORY, TABLES), 0);
+    ARE(m.state, { 162, 0377 }, { 163, 2 });
+    IS(nd110_load(STATE, cleared, WORDS(cleared), MEMORY, TABLES), 0);
+    ARE(m.state, { 0, 0 });
+    guards();
 }
 
 /* SEX, TRA STS, REX, TRA STS, WAIT: bit 13 of the full status word is the extended flag, bit 12 is always 1. */
@@ -870,8 +1280,8 @@ static void extended_images(void)
     IS(nd110_load(RECORD, SWITCHING, MEMORY, TABLES), 0);
     IS(nd110_run(RECORD, MEMORY, TABLES, 3, &steps[1], &reason[1]), 0);
     IS(nd110_write(RECORD, MEMORY, TABLES, m.out, IMAGE_WORDS), 0);
-    IS(m.out[21 + 2048 + 128 + 27], 1);
-    IS(m.out[21 + 2048 + 156 + 263], 0100001);
+    IS(m.out[26 + 2048 + 128 + 27], 1);
+    IS(m.out[26 + 2048 + 128 + 28 + 263], 0100001);
     IS(m.out[IMAGE_WORDS], GUARD);
     memcpy(copy, m.out, sizeof copy);
     fill();
@@ -937,7 +1347,11 @@ static void refused_sizes(uint16_t *memory, uint16_t *out)
         IS(nd110_raise(STATE, 10, memory, len, TABLES), 1);
         IS(nd110_raise_lent(&m.record, 10, memory, len, TABLES), 1);
         IS(nd110_load(STATE, LARGEST_IMAGE, memory, len, TABLES), 1);
-        IS(nd110_write(STATE, memory, len, TABLES, out, LARGEST + 689), 1);
+        IS(nd110_write(STATE, memory, len, TABLES, out, LARGEST + 706), 1);
+        IS(nd110_tick(STATE, memory, len, TABLES), 1);
+        IS(nd110_type(STATE, 0101, memory, len, TABLES), 1);
+        IS(nd110_read_out(STATE, memory, len, TABLES, &character[1]), 1);
+        IS(nd110_run_with_input(STATE, memory, len, TABLES, 10, NO_INPUT, TOLD), 1);
         IS(nd110_view(1, 0, 1, memory, len, TABLES, OUT), 1);
         IS(nd110_view_answer(1, 0, 1, memory, len, TABLES), 1);
     }
@@ -974,6 +1388,14 @@ static void largest_steps(uint16_t *memory)
     IS(m.record.registers[0][ND110_P], 7);
     IS(nd110_raise_lent(&m.record, 10, memory, LARGEST, TABLES), 0);
     IS(m.record.pid, 02000);
+    IS(nd110_tick(RECORD, memory, LARGEST, TABLES), 0);
+    IS(m.record.clock_ready, 1);
+    IS(nd110_type(RECORD, 0101, memory, LARGEST, TABLES), 0);
+    IS(m.record.input_character, 0101);
+    IS(nd110_read_out(RECORD, memory, LARGEST, TABLES, &character[1]), 0);
+    IS(character[1], 256);
+    IS(nd110_run_with_input(RECORD, memory, LARGEST, TABLES, 0, NO_INPUT, TOLD), 0);
+    IS(reason[1], 2);
     IS(nd110_run(RECORD, memory, LARGEST, TABLES, 10, &steps[1], &reason[1]), 0);
     IS(steps[1], 1);
     IS(reason[1], 0);
@@ -983,27 +1405,33 @@ static void largest_steps(uint16_t *memory)
 /* Viewed, written, cleared, and loaded again. */
 static void largest_images(uint16_t *memory, uint16_t *out)
 {
-    static const uint16_t contents[] = { 4, 1, 0, 0, 256, 0, 2, 0, 0, 0, 128, 3, 0, 0, 0, 28, 4, 0, 0, 0, 512 };
-    nd110_state was = m.record;
+    static const uint16_t contents[] = {
+        5, 1, 0, 0, 256, 0, 2, 0, 0, 0, 128, 3, 0, 0, 0, 28, 4, 0, 0, 0, 512, 5, 0, 0, 0, 12
+    };
+    nd110_state was;
+    m.record.output_character = 0152;
+    was = m.record;
     IS(nd110_view(1, LARGEST - 2, 2, memory, LARGEST, TABLES, OUT), 0);
     IS(m.out[0], 5);
     IS(m.out[1], 0123321);
     IS(nd110_view(1, LARGEST - 1, 2, memory, LARGEST, TABLES, OUT), 9);
     IS(nd110_view_answer(1, 0, LARGEST, memory, LARGEST, TABLES), 0);
     IS(nd110_view_answer(1, LARGEST, 1, memory, LARGEST, TABLES), 9);
-    out[LARGEST + 689] = GUARD;
-    IS(nd110_write(RECORD, memory, LARGEST, TABLES, out, LARGEST + 688), 10);
-    IS(nd110_write(RECORD, memory, LARGEST, TABLES, out, LARGEST + 690), 0);
+    out[LARGEST + 706] = GUARD;
+    IS(nd110_write(RECORD, memory, LARGEST, TABLES, out, LARGEST + 705), 10);
+    IS(nd110_write(RECORD, memory, LARGEST, TABLES, out, LARGEST + 707), 0);
     IS(memcmp(out, contents, sizeof contents), 0);
-    IS(memcmp(out + 21, memory, 2u * LARGEST), 0);
-    IS(memcmp(out + 21 + LARGEST, &was, sizeof was), 0);
-    IS(out[21 + LARGEST + 156 + 3], 037777);
-    IS(out[LARGEST + 689], GUARD);
+    IS(memcmp(out + 26, memory, 2u * LARGEST), 0);
+    IS(memcmp(out + 26 + LARGEST, &was, 2 * 156), 0);
+    IS(out[26 + LARGEST + 156 + 3], 037777);
+    IS(memcmp(out + 26 + LARGEST + 156 + 512, (uint16_t *)&was + 156, 2 * 12), 0);
+    IS(out[LARGEST + 705], 0152);
+    IS(out[LARGEST + 706], GUARD);
     memset(memory, 0, 2u * LARGEST);
     fill();
-    IS(nd110_load(RECORD, out, LARGEST + 689, memory, LARGEST, TABLES), 0);
+    IS(nd110_load(RECORD, out, LARGEST + 706, memory, LARGEST, TABLES), 0);
     IS(memcmp(&m.record, &was, sizeof was), 0);
-    IS(memcmp(out + 21, memory, 2u * LARGEST), 0);
+    IS(memcmp(out + 26, memory, 2u * LARGEST), 0);
     ARE(m.tables, { 0, 0166000 }, { 2, 0166000 }, { 3, 037777 });
     guards();
 }
@@ -1011,7 +1439,7 @@ static void largest_images(uint16_t *memory, uint16_t *out)
 static void largest(void)
 {
     uint16_t *memory = calloc(LARGEST + 1024, sizeof *memory);
-    uint16_t *out = calloc(LARGEST + 690, sizeof *out);
+    uint16_t *out = calloc(LARGEST + 707, sizeof *out);
     IS(memory && out, 1);
     if (memory && out) {
         loaded();
@@ -1156,7 +1584,12 @@ int main(void)
     viewed();
     written();
     refused();
-    refused_flags();
+    refused_words();
+    registers();
+    idents();
+    inputs();
+    ended();
+    device_images();
     status();
     long_entries();
     physical();

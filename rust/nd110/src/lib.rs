@@ -1,5 +1,5 @@
-//! The proved ND-110 engine for a Rust host: every operation of document 01 over lent words, and the conversions of
-//! document 02 between the two floating forms.
+//! The proved ND-110 engine for a Rust host: every operation of document 01 over lent words, and document 02's console
+//! and clock and its conversions between the two floating forms.
 //!
 //! Each function calls the static library's function of the same name. What the library cannot see for itself, slices
 //! and references of Rust ensure: they are not null, as long as they say, and do not overlap. So no call here is
@@ -20,25 +20,27 @@
 //! # Ok::<(), nd110::Refusal>(())
 //! ```
 
+mod input;
 #[allow(unsafe_code)]
 mod library;
 mod machine;
 mod numbers;
 
+pub use input::{Input, InputRun, Told, run_with_input};
 pub use machine::Machine;
 pub use numbers::{
-    Control, IMAGE_EXTRA, LONG_WORDS, MEMORY_MOST, PAGE_WORDS, Reason, Refusal, Register,
+    Control, Device, IMAGE_EXTRA, LONG_WORDS, MEMORY_MOST, PAGE_WORDS, Reason, Refusal, Register,
     SHORT_WORDS, STATE_WORDS, TABLE_WORDS, Target, VERSION,
 };
 
-/// A state as words in image order: register n of a level is word 8 * level + n, control word n is word 128 + n. It is
-/// these words alone, so it is also the record that `step_lent` and `raise_lent` take.
+/// A state as words in image order: register n of a level is word 8 * level + n, control word n is word 128 + n, device
+/// word n is word 156 + n. It is these words alone, so it is also the record that `step_lent` and `raise_lent` take.
 #[derive(Clone, Copy, Debug, PartialEq, Eq)]
 #[repr(transparent)]
 pub struct State(pub [u16; STATE_WORDS]);
 
 impl State {
-    /// Every word 0: level 0, interrupts and paging off, not stopped, no paging fault held, 19-bit mode.
+    /// Every word 0: level 0, interrupts and paging off, not stopped, no paging fault held, 19-bit mode, devices cleared.
     pub fn new() -> State {
         State([0; STATE_WORDS])
     }
@@ -64,6 +66,11 @@ impl State {
     pub fn pcr(&self, level: usize) -> u16 {
         assert!(level < 16, "no level {level}");
         self.0[128 + numbers::PCR + level]
+    }
+
+    /// A word of the devices.
+    pub fn device(&self, word: Device) -> u16 {
+        self.0[numbers::FIRST_DEVICE + word as usize]
     }
 }
 
@@ -147,6 +154,39 @@ pub fn raise_lent(
     answer(library::raise_lent(state, level, memory, tables))
 }
 
+/// The real-time clock's pulse. A tick that comes before the last was served is not counted, but asks again if the clock
+/// is enabled. Refuses 1, 2.
+pub fn tick(state: &mut State, memory: &[u16], tables: &[u16]) -> Result<(), Refusal> {
+    answer(library::tick(&mut state.0, memory, tables))
+}
+
+/// A character typed at the terminal. Refuses 1, 2, 11.
+pub fn type_character(
+    state: &mut State,
+    character: u8,
+    memory: &[u16],
+    tables: &[u16],
+) -> Result<(), Refusal> {
+    answer(library::type_character(
+        &mut state.0,
+        character,
+        memory,
+        tables,
+    ))
+}
+
+/// The character that was sent last, once; `None` if none waits, and then nothing changes. Refuses 1, 2.
+pub fn read_out(state: &mut State, memory: &[u16], tables: &[u16]) -> Result<Option<u8>, Refusal> {
+    let mut character = 0;
+    answer(library::read_out(
+        &mut state.0,
+        memory,
+        tables,
+        &mut character,
+    ))?;
+    Ok(input::character(character))
+}
+
 /// The words of an image file, which has the high byte first. An odd count of bytes is refused 8.
 pub fn image_words(bytes: &[u8]) -> Result<Vec<u16>, Refusal> {
     let (pairs, rest) = bytes.as_chunks();
@@ -163,7 +203,7 @@ pub fn load(image: &[u16], memory: &mut [u16], tables: &mut [u16]) -> Result<Sta
     Ok(state)
 }
 
-/// The machine as an image of memory + 689 words; words of `out` past it stay. Refuses 1, 2, 10.
+/// The machine as an image of memory + 706 words; words of `out` past it stay. Refuses 1, 2, 10.
 pub fn write(
     state: &State,
     memory: &[u16],

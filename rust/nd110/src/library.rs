@@ -63,6 +63,50 @@ mod raw {
             tables: *const u16,
             tables_len: usize,
         ) -> u16;
+        pub fn nd110_tick(
+            state: *mut u16,
+            state_len: usize,
+            memory: *const u16,
+            memory_len: usize,
+            tables: *const u16,
+            tables_len: usize,
+        ) -> u16;
+        pub fn nd110_type(
+            state: *mut u16,
+            state_len: usize,
+            character: u8,
+            memory: *const u16,
+            memory_len: usize,
+            tables: *const u16,
+            tables_len: usize,
+        ) -> u16;
+        pub fn nd110_read_out(
+            state: *mut u16,
+            state_len: usize,
+            memory: *const u16,
+            memory_len: usize,
+            tables: *const u16,
+            tables_len: usize,
+            character: *mut u16,
+        ) -> u16;
+        pub fn nd110_run_with_input(
+            state: *mut u16,
+            state_len: usize,
+            memory: *mut u16,
+            memory_len: usize,
+            tables: *mut u16,
+            tables_len: usize,
+            n: u64,
+            at: *const u64,
+            at_len: usize,
+            what: *const u16,
+            what_len: usize,
+            told: *mut u16,
+            told_len: usize,
+            handed: *mut u64,
+            steps: *mut u64,
+            reason: *mut u16,
+        ) -> u16;
         pub fn nd110_load(
             state: *mut u16,
             state_len: usize,
@@ -109,7 +153,7 @@ mod raw {
 }
 
 // SAFETY of every call below: the places and lengths are those of slices and references, valid, and apart where one is
-// written; the library is proved to stay within them. A record's place is that of a `State`, which is exactly its 156
+// written; the library is proved to stay within them. A record's place is that of a `State`, which is exactly its 168
 // words (`repr(transparent)`), in the order of the header's nd110_state.
 
 pub fn step(state: &mut [u16], memory: &mut [u16], tables: &mut [u16], interrupt: &mut u16) -> u16 {
@@ -217,6 +261,93 @@ pub fn raise_lent(state: &mut State, level: u16, memory: &[u16], tables: &[u16])
     }
 }
 
+pub fn tick(state: &mut [u16], memory: &[u16], tables: &[u16]) -> u16 {
+    unsafe {
+        raw::nd110_tick(
+            state.as_mut_ptr(),
+            state.len(),
+            memory.as_ptr(),
+            memory.len(),
+            tables.as_ptr(),
+            tables.len(),
+        )
+    }
+}
+
+pub fn type_character(state: &mut [u16], character: u8, memory: &[u16], tables: &[u16]) -> u16 {
+    unsafe {
+        raw::nd110_type(
+            state.as_mut_ptr(),
+            state.len(),
+            character,
+            memory.as_ptr(),
+            memory.len(),
+            tables.as_ptr(),
+            tables.len(),
+        )
+    }
+}
+
+pub fn read_out(state: &mut [u16], memory: &[u16], tables: &[u16], character: &mut u16) -> u16 {
+    unsafe {
+        raw::nd110_read_out(
+            state.as_mut_ptr(),
+            state.len(),
+            memory.as_ptr(),
+            memory.len(),
+            tables.as_ptr(),
+            tables.len(),
+            character,
+        )
+    }
+}
+
+/// The lists of a run with input: when each input is handed in, what it is, and room for what it is told.
+pub struct Inputs<'a> {
+    pub at: &'a [u64],
+    pub what: &'a [u16],
+    pub told: &'a mut [u16],
+}
+
+/// What a run with input tells beside its number.
+#[derive(Debug, Default, PartialEq)]
+pub struct Ended {
+    pub handed: u64,
+    pub steps: u64,
+    pub reason: u16,
+}
+
+pub fn run_with_input(
+    state: &mut [u16],
+    memory: &mut [u16],
+    tables: &mut [u16],
+    n: u64,
+    inputs: Inputs,
+    ended: &mut Ended,
+) -> u16 {
+    let Inputs { at, what, told } = inputs;
+    unsafe {
+        raw::nd110_run_with_input(
+            state.as_mut_ptr(),
+            state.len(),
+            memory.as_mut_ptr(),
+            memory.len(),
+            tables.as_mut_ptr(),
+            tables.len(),
+            n,
+            at.as_ptr(),
+            at.len(),
+            what.as_ptr(),
+            what.len(),
+            told.as_mut_ptr(),
+            told.len(),
+            &mut ended.handed,
+            &mut ended.steps,
+            &mut ended.reason,
+        )
+    }
+}
+
 pub fn load(state: &mut [u16], image: &[u16], memory: &mut [u16], tables: &mut [u16]) -> u16 {
     unsafe {
         raw::nd110_load(
@@ -292,57 +423,112 @@ pub fn long_to_short(t: u16, a: u16, d: u16, out: &mut [u16]) -> u16 {
     unsafe { raw::nd110_long_to_short(t, a, d, out.as_mut_ptr(), out.len()) }
 }
 
-/// What no other function of this crate can ask for: states of any length, a load over a state that holds something,
-/// conversions to outputs of any length, and over the words that were read.
+/// What no other function of this crate can ask for: states of any length, lists of input of different lengths, a load
+/// over a state that holds something, conversions to outputs of any length, and over the words that were read.
 #[cfg(test)]
 mod tests {
     use super::*;
     use crate::{IMAGE_EXTRA, PAGE_WORDS, TABLE_WORDS};
 
-    /// Every call that takes the state as words, on these words, each with its own copy; state, memory, page tables and
-    /// output after it, and what was told beside its number.
-    fn calls(state: &[u16]) -> Vec<(u16, Vec<u16>, [u64; 3])> {
+    /// Every call that takes the state as words, on these words, each with its own copy; state, memory, page tables,
+    /// output and words told after it, and what a run told.
+    fn calls(state: &[u16]) -> Vec<(u16, Vec<u16>, Ended)> {
         let image: [u16; 6] = [1, 3, 0, 0, 0, 0];
-        (0..6)
+        (0..10)
             .map(|call| {
                 let mut state = state.to_vec();
                 let (mut memory, mut tables) = ([F; PAGE_WORDS], [F; TABLE_WORDS]);
-                let mut out = [F; PAGE_WORDS + IMAGE_EXTRA];
-                let (mut interrupt, mut taken, mut reason) = (F, u64::from(F), F);
+                let (mut out, mut told) = ([F; PAGE_WORDS + IMAGE_EXTRA], [F]);
+                let (mut interrupt, mut character) = (F, F);
+                let mut ended = untold();
                 let (s, m, t) = (&mut state[..], &mut memory[..], &mut tables[..]);
                 let number = match call {
                     0 => step(s, m, t, &mut interrupt),
-                    1 => run(s, m, t, 0, &mut taken, &mut reason),
-                    2 => run_to_interrupt(s, m, t, 0, &mut taken, &mut reason),
+                    1 => run(s, m, t, 0, &mut ended.steps, &mut ended.reason),
+                    2 => run_to_interrupt(s, m, t, 0, &mut ended.steps, &mut ended.reason),
                     3 => raise(s, 10, m, t),
                     4 => load(s, &image, m, t),
-                    _ => write(s, m, t, &mut out),
+                    5 => write(s, m, t, &mut out),
+                    6 => tick(s, m, t),
+                    7 => type_character(s, 0o101, m, t),
+                    8 => read_out(s, m, t, &mut character),
+                    _ => {
+                        let inputs = Inputs {
+                            at: &[0],
+                            what: &[256],
+                            told: &mut told,
+                        };
+                        run_with_input(s, m, t, 0, inputs, &mut ended)
+                    }
                 };
-                for words in [&memory[..], &tables, &out] {
+                for words in [&memory[..], &tables, &out, &told, &[interrupt, character]] {
                     state.extend(words);
                 }
-                let told = [interrupt.into(), taken, reason.into()];
-                (number, state, told)
+                (number, state, ended)
             })
             .collect()
     }
 
-    /// A state of 155 words, as version 3 had it, or of 154, as it was before, is no state, nor is one of 157.
-    #[test]
-    fn states_of_any_length() {
-        let rest = PAGE_WORDS + TABLE_WORDS + PAGE_WORDS + IMAGE_EXTRA;
-        for len in [0, 1, 128, 153, 154, 155, 157, 158, 312] {
-            let left: Vec<u16> = [vec![0; len], vec![F; rest]].concat();
-            for given in calls(&vec![0; len]) {
-                assert_eq!(given, (255, left.clone(), [F.into(); 3]), "{len} words");
-            }
+    /// What a run tells, before it.
+    fn untold() -> Ended {
+        Ended {
+            handed: F.into(),
+            steps: F.into(),
+            reason: F,
         }
-        let numbers: Vec<u16> = calls(&[0; 156]).iter().map(|given| given.0).collect();
-        assert_eq!(numbers, [0; 6]);
     }
 
-    /// Images of 26 and 27 control words, over states whose PGS is held and whose mode is extended, or that are out of
-    /// range: what an image does not name is 0.
+    /// A state of 156 words, as version 4 had it, of 155 or of 154, as it was before, is no state, nor is one of 169.
+    #[test]
+    fn states_of_any_length() {
+        let rest = PAGE_WORDS + TABLE_WORDS + PAGE_WORDS + IMAGE_EXTRA + 3;
+        for len in [0, 1, 128, 153, 154, 155, 156, 157, 166, 167, 169, 170, 336] {
+            let left: Vec<u16> = [vec![0; len], vec![F; rest]].concat();
+            for given in calls(&vec![0; len]) {
+                assert_eq!(given, (255, left.clone(), untold()), "{len} words");
+            }
+        }
+        let numbers: Vec<u16> = calls(&[0; 168]).iter().map(|given| given.0).collect();
+        assert_eq!(numbers, [0; 10]);
+    }
+
+    /// The three lists have one length, or nothing is done: a tick and a character for step 0 of a machine in range.
+    #[test]
+    fn inputs_of_any_lengths() {
+        let (at, what) = ([0, 0], [256, 512]);
+        for lens in 0..27 {
+            let lens: [usize; 3] = [lens % 3, lens / 3 % 3, lens / 9];
+            let (mut state, mut told) = ([0; 168], [F; 2]);
+            let (mut memory, mut tables) = ([F; PAGE_WORDS], [F; TABLE_WORDS]);
+            let mut ended = untold();
+            let inputs = Inputs {
+                at: &at[..lens[0]],
+                what: &what[..lens[1]],
+                told: &mut told[..lens[2]],
+            };
+            let number =
+                run_with_input(&mut state, &mut memory, &mut tables, 0, inputs, &mut ended);
+            assert_eq!((memory, tables), ([F; PAGE_WORDS], [F; TABLE_WORDS]));
+            if lens[0] != lens[1] || lens[1] != lens[2] {
+                assert_eq!((number, ended), (255, untold()), "{lens:?}");
+                assert_eq!((state, told), ([0; 168], [F; 2]), "{lens:?}");
+                continue;
+            }
+            let handed = lens[0];
+            let wanted = Ended {
+                handed: handed as u64,
+                steps: 0,
+                reason: 2,
+            };
+            assert_eq!((number, ended), (0, wanted), "{lens:?}");
+            let (ready, unread) = (u16::from(handed > 0), u16::from(handed > 1));
+            assert_eq!((state[157], state[160]), (ready, unread));
+            assert_eq!(told, [[F, F], [0, F], [0, 0]][handed]);
+        }
+    }
+
+    /// Images of 26 and 27 control words, over states whose PGS is held, whose mode is extended and whose devices are
+    /// not cleared, or that are out of range: what an image does not name is 0.
     #[test]
     fn loads_over_any_state() {
         for len in [26, 27] {
@@ -350,12 +536,13 @@ mod tests {
             image.resize(6 + usize::from(len), 0);
             image[6 + 9] = 0o040102;
             let (mut memory, mut tables) = ([F; PAGE_WORDS], [F; TABLE_WORDS]);
-            let mut want = [0; 156];
+            let mut want = [0; 168];
             want[128 + 9] = 0o040102;
             for [held, extended] in [[0, 0], [0, 1], [1, 0], [1, 1], [2, 2], [0o177777; 2]] {
-                let mut state = [0; 156];
+                let mut state = [0; 168];
                 state[128 + 26] = held;
                 state[128 + 27] = extended;
+                state[156..].fill(held);
                 assert_eq!(load(&mut state, &image, &mut memory, &mut tables), 0);
                 assert_eq!(state, want);
             }

@@ -1,13 +1,13 @@
 //! A machine that owns its words.
 
 use crate::{
-    Control, IMAGE_EXTRA, MEMORY_MOST, PAGE_WORDS, Reason, Refusal, Register, State, TABLE_WORDS,
-    Target,
+    Control, Device, IMAGE_EXTRA, Input, InputRun, MEMORY_MOST, PAGE_WORDS, Reason, Refusal,
+    Register, State, TABLE_WORDS, Target,
 };
 use std::fmt;
 
 /// A machine with its state, memory and page tables. Its sizes are in range from the start and stay so: no method
-/// refuses 1. Methods of coming operations (tick) will stand beside these.
+/// refuses 1.
 ///
 /// The host may store any word between calls, by `state_mut`, `memory_mut` and `tables_mut`. A state out of range is
 /// refused, not executed.
@@ -58,6 +58,37 @@ impl Machine {
     /// At most `steps` steps, up to the first that gives an interrupt, or before a change of level. Refuses 2.
     pub fn run_to_interrupt(&mut self, steps: u64) -> Result<(u64, Reason), Refusal> {
         crate::run_to_interrupt(&mut self.state, &mut self.memory, &mut self.tables, steps)
+    }
+
+    /// The real-time clock's pulse, every 20 ms. One that comes before the last was served is not counted, but asks
+    /// again if the clock is enabled. Refuses 2.
+    pub fn tick(&mut self) -> Result<(), Refusal> {
+        crate::tick(&mut self.state, &self.memory, &self.tables)
+    }
+
+    /// A character typed at the terminal. Refuses 2, 11.
+    pub fn type_character(&mut self, character: u8) -> Result<(), Refusal> {
+        crate::type_character(&mut self.state, character, &self.memory, &self.tables)
+    }
+
+    /// The character that was sent last, once; `None` if none waits. Refuses 2.
+    pub fn read_out(&mut self) -> Result<Option<u8>, Refusal> {
+        crate::read_out(&mut self.state, &self.memory, &self.tables)
+    }
+
+    /// At most `steps` steps, up to the first that gives an interrupt, or before a change of level, with device input.
+    /// Refuses 2.
+    pub fn run_with_input(
+        &mut self,
+        steps: u64,
+        inputs: &[(u64, Input)],
+    ) -> Result<InputRun, Refusal> {
+        let Machine {
+            state,
+            memory,
+            tables,
+        } = self;
+        crate::run_with_input(state, memory, tables, steps, inputs)
     }
 
     /// A part of memory or page tables, lent and not copied. Refuses 9.
@@ -122,6 +153,11 @@ impl Machine {
     /// If `level` is above 15.
     pub fn pcr(&self, level: usize) -> u16 {
         self.state.pcr(level)
+    }
+
+    /// A word of the devices.
+    pub fn device(&self, word: Device) -> u16 {
+        self.state.device(word)
     }
 }
 

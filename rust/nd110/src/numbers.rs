@@ -4,10 +4,10 @@ use std::error::Error;
 use std::fmt;
 
 /// The version of the interface.
-pub const VERSION: usize = 4;
+pub const VERSION: usize = 5;
 
-/// Words of a state in image order: 128 registers, then 28 control words.
-pub const STATE_WORDS: usize = 156;
+/// Words of a state in image order: 128 registers, 28 control words, then 12 words of the devices.
+pub const STATE_WORDS: usize = 168;
 /// Words of lent page tables: four tables of 64 entries, of one word each in 19-bit mode, which uses the first 256, of
 /// two in extended mode.
 pub const TABLE_WORDS: usize = 512;
@@ -16,7 +16,7 @@ pub const PAGE_WORDS: usize = 1024;
 /// Most words of lent memory, in either mode.
 pub const MEMORY_MOST: usize = 16_777_216;
 /// Words of a written image beside memory.
-pub const IMAGE_EXTRA: usize = 689;
+pub const IMAGE_EXTRA: usize = 706;
 /// Words of a short floating number, 32 bits: A, D.
 pub const SHORT_WORDS: usize = 2;
 /// Words of a long floating number, 48 bits: T, A, D.
@@ -47,6 +47,8 @@ pub enum Refusal {
     View = 9,
     /// Output too short for the image.
     Output = 10,
+    /// A character typed while the last is unread.
+    Unread = 11,
     /// A floating number that is not zero and has a short exponent field of 0, or a long mantissa whose top bit is 0.
     Malformed = 15,
     /// A long exponent field beyond 16,129 to 16,639.
@@ -70,6 +72,7 @@ impl Refusal {
         Refusal::Bodies,
         Refusal::View,
         Refusal::Output,
+        Refusal::Unread,
         Refusal::Malformed,
         Refusal::ExponentRange,
         Refusal::Precision,
@@ -95,6 +98,7 @@ impl fmt::Display for Refusal {
             Refusal::Bodies => "the image's bodies are not exactly the rest of it",
             Refusal::View => "a view beyond its target's size",
             Refusal::Output => "too few words of output for the image",
+            Refusal::Unread => "a character typed while the last is unread",
             Refusal::Malformed => {
                 "not zero, and a short exponent field or the top bit of a long mantissa is 0"
             }
@@ -114,11 +118,11 @@ impl Error for Refusal {}
 pub enum Reason {
     /// The machine is stopped.
     Stopped = 0,
-    /// A change of level is due (to the first interrupt only).
+    /// A change of level is due (to the first interrupt, and with input, only).
     Level = 1,
     /// As many steps as asked were taken.
     Spent = 2,
-    /// The last step gave an interrupt (to the first interrupt only).
+    /// The last step gave an interrupt (to the first interrupt, and with input, only).
     Interrupt = 3,
 }
 
@@ -185,3 +189,61 @@ pub enum Control {
 
 /// The control word that is the PCR of level 0.
 pub const PCR: usize = 10;
+
+/// The state's word that is the first of the devices.
+pub const FIRST_DEVICE: usize = 156;
+
+/// A word of the devices: the real-time clock, the terminal's input and its output. Characters are 0 to 255, the length
+/// is 0 to 3, the others are 0 or 1, in any combination.
+#[derive(Clone, Copy, Debug, PartialEq, Eq)]
+pub enum Device {
+    /// Bit 0 of the control word that was written last; so are the other two.
+    ClockEnabled,
+    /// A tick has come since ready was cleared.
+    ClockReady,
+    /// The interrupt flip-flop, which IDENT alone clears; so are the other two.
+    ClockAsks,
+    InputEnabled,
+    /// The character that was typed last is unread.
+    InputUnread,
+    InputAsks,
+    /// The character that was typed last, read or not.
+    InputCharacter,
+    /// Bits 12-11 of the input's control word: characters have 8 less so many bits.
+    InputLength,
+    OutputEnabled,
+    /// The character that was sent last is not read out yet; output is ready while this is 0.
+    OutputWaits,
+    OutputAsks,
+    /// The character that was sent last, read out or not.
+    OutputCharacter,
+}
+
+impl Device {
+    /// Every word, in image order.
+    pub const ALL: [Device; 12] = [
+        Device::ClockEnabled,
+        Device::ClockReady,
+        Device::ClockAsks,
+        Device::InputEnabled,
+        Device::InputUnread,
+        Device::InputAsks,
+        Device::InputCharacter,
+        Device::InputLength,
+        Device::OutputEnabled,
+        Device::OutputWaits,
+        Device::OutputAsks,
+        Device::OutputCharacter,
+    ];
+}
+
+// An input of a run as a word; below 256 it is the level to raise.
+
+/// The input that is a tick.
+pub const TICK: u16 = 256;
+/// The input that is a read out.
+pub const READ_OUT: u16 = 257;
+/// The input that is the typed character 0.
+pub const TYPED: u16 = 512;
+/// What a read out tells where no character waits.
+pub const NO_CHARACTER: u16 = 256;

@@ -1,11 +1,12 @@
 //! Every function of this crate called through the archive, with arguments that cannot be taken for one another. What
 //! must come is written by hand from document 01, of the conversions from document 02, card 12. tests/calls.c is the
-//! same through the C header.
+//! same through the C header. What the devices do is in devices.rs.
 
 use nd110::{
-    IMAGE_EXTRA, PAGE_WORDS, Reason, Refusal, STATE_WORDS, State, TABLE_WORDS, Target, image_words,
-    load, long_to_short, raise, raise_lent, run, run_to_interrupt, short_to_long, step, step_lent,
-    view, view_into, write,
+    IMAGE_EXTRA, Input, InputRun, PAGE_WORDS, Reason, Refusal, STATE_WORDS, State, TABLE_WORDS,
+    Target, Told, image_words, load, long_to_short, raise, raise_lent, read_out, run,
+    run_to_interrupt, run_with_input, short_to_long, step, step_lent, tick, type_character, view,
+    view_into, write,
 };
 
 const MEMORY: usize = 2 * PAGE_WORDS;
@@ -123,6 +124,27 @@ impl Machine {
         raise_lent(&mut self.state, level, &self.memory, &self.tables)
     }
 
+    fn tick(&mut self) -> Result<(), Refusal> {
+        tick(&mut self.state, &self.memory, &self.tables)
+    }
+
+    fn type_character(&mut self, character: u8) -> Result<(), Refusal> {
+        type_character(&mut self.state, character, &self.memory, &self.tables)
+    }
+
+    fn read_out(&mut self) -> Result<Option<u8>, Refusal> {
+        read_out(&mut self.state, &self.memory, &self.tables)
+    }
+
+    fn run_with_input(&mut self, steps: u64, inputs: &[(u64, Input)]) -> Result<InputRun, Refusal> {
+        let Machine {
+            state,
+            memory,
+            tables,
+        } = self;
+        run_with_input(state, memory, tables, steps, inputs)
+    }
+
     fn write(&self, out: &mut [u16]) -> Result<(), Refusal> {
         write(&self.state, &self.memory, &self.tables, out)
     }
@@ -140,6 +162,12 @@ impl Machine {
         assert_eq!(self.run_to_interrupt(10), Err(refusal));
         assert_eq!(self.raise(10), Err(refusal));
         assert_eq!(self.raise_lent(10), Err(refusal));
+        assert_eq!(self.tick(), Err(refusal));
+        assert_eq!(self.type_character(0o101), Err(refusal));
+        assert_eq!(self.read_out(), Err(refusal));
+        for inputs in [&[][..], &[(0, Input::Tick)], &[(0, Input::Raise(9))]] {
+            assert_eq!(self.run_with_input(10, inputs), Err(refusal));
+        }
         let mut out = vec![FILLED; self.memory.len() + IMAGE_EXTRA];
         assert_eq!(self.write(&mut out), Err(refusal));
         assert!(out.iter().all(|word| *word == FILLED));
@@ -214,6 +242,48 @@ fn lent() {
     m.is(&[a, p, a_2, t_14, stopped, pid, pie, iid, iie]);
 }
 
+/// The loaded program with a raise, a tick and a character: it ends with MON, before the input for that step.
+#[test]
+fn with_input() {
+    let mut m = Machine::loaded();
+    let inputs = [
+        (0, Input::Raise(12)),
+        (1, Input::Raise(14)),
+        (1, Input::Tick),
+        (2, Input::Typed(0o303)),
+        (2, Input::Typed(0o101)),
+        (2, Input::ReadOut),
+        (3, Input::Tick),
+    ];
+    let unread = Told::Refused(Refusal::Unread);
+    let ran = InputRun {
+        steps: 3,
+        reason: Reason::Interrupt,
+        told: vec![
+            Told::Done,
+            Told::Refused(Refusal::RaiseLevel),
+            Told::Done,
+            Told::Done,
+            unread,
+            Told::None,
+        ],
+    };
+    assert_eq!(m.run_with_input(10, &inputs), Ok(ran));
+    let (a, p, a_2, t_14) = ((A_0, 0o10), (P_0, 3), (A_2, 0o321), (T_14, 7));
+    let (pid, pie, iid, iie) = ((PID, 0o10000), (PIE, 0o10000), (IID, 2), (IIE, 0o20));
+    let devices = [(157, 1), (160, 1), (162, 0o303)];
+    let state = [a, p, a_2, t_14, pid, pie, iid, iie];
+    m.is(&[&state[..], &devices].concat());
+    assert_eq!(m.tick(), Ok(()));
+    assert_eq!(m.type_character(0), Err(Refusal::Unread));
+    assert_eq!(m.read_out(), Ok(None));
+    m.is(&[&state[..], &devices].concat());
+    m.state.0[165..].copy_from_slice(&[1, 0, 0o377]);
+    assert_eq!(m.read_out(), Ok(Some(0o377)));
+    assert_eq!(m.read_out(), Ok(None));
+    m.is(&[&state[..], &devices, &[(167, 0o377)]].concat());
+}
+
 #[test]
 fn viewed() {
     let m = Machine::loaded();
@@ -247,22 +317,23 @@ fn viewed() {
     );
 }
 
-/// Four full entries and their bodies; then loaded again, over other contents.
+/// Five full entries and their bodies; then loaded again, over other contents.
 #[test]
 fn written() {
     let m = Machine::stepped();
     let mut out = vec![FILLED; MEMORY + IMAGE_EXTRA + 1];
     assert_eq!(m.write(&mut out), Ok(()));
     let contents = [
-        4, 1, 0, 0, 0, 2048, 2, 0, 0, 0, 128, 3, 0, 0, 0, 28, 4, 0, 0, 0, 512,
+        5, 1, 0, 0, 0, 2048, 2, 0, 0, 0, 128, 3, 0, 0, 0, 28, 4, 0, 0, 0, 512, 5, 0, 0, 0, 12,
     ];
-    assert_eq!(out[..21], contents);
-    assert_eq!(out[21..2069], m.memory);
-    assert_eq!(out[2069..2225], m.state.0);
-    assert_eq!(out[2225..2737], m.tables);
-    assert_eq!(out[2737], FILLED);
+    assert_eq!(out[..26], contents);
+    assert_eq!(out[26..2074], m.memory);
+    assert_eq!(out[2074..2230], m.state.0[..156]);
+    assert_eq!(out[2230..2742], m.tables);
+    assert_eq!(out[2742..2754], m.state.0[156..]);
+    assert_eq!(out[2754], FILLED);
     let (mut memory, mut tables) = (vec![FILLED; MEMORY], vec![FILLED; TABLE_WORDS]);
-    let state = load(&out[..2737], &mut memory, &mut tables).unwrap();
+    let state = load(&out[..2754], &mut memory, &mut tables).unwrap();
     let again = Machine {
         state,
         memory,
@@ -304,16 +375,17 @@ fn refused() {
         assert_eq!(m.raise(level), Err(Refusal::RaiseLevel));
         assert_eq!(m.raise_lent(level), Err(Refusal::RaiseLevel));
     }
-    let mut out = [FILLED; MEMORY + 688];
+    let mut out = [FILLED; MEMORY + 705];
     assert_eq!(m.write(&mut out), Err(Refusal::Output));
     assert!(out.iter().all(|word| *word == FILLED));
-    let images: [(&[u16], Refusal); 12] = [
+    let images: [(&[u16], Refusal); 15] = [
         (&[], Refusal::Contents),
         (&IMAGE[..25], Refusal::Contents),
         (&[33], Refusal::Contents),
-        (&[1, 5, 0, 0, 0, 0], Refusal::Kind),
+        (&[1, 6, 0, 0, 0, 0], Refusal::Kind),
         (&[1, 4, 0, 512, 0, 1, 0], Refusal::Target),
         (&[1, 3, 0, 28, 0, 1, 0], Refusal::Target),
+        (&[1, 5, 0, 12, 0, 1, 0], Refusal::Target),
         (
             &[2, 1, 0, 0, 0, 2, 1, 0, 1, 0, 1, 0, 0, 0],
             Refusal::Overlap,
@@ -323,6 +395,8 @@ fn refused() {
         (&[1, 2, 0, 0, 0, 1, 0o400], Refusal::State),
         (&[1, 3, 0, 26, 0, 1, 2], Refusal::State),
         (&[1, 3, 0, 27, 0, 1, 2], Refusal::State),
+        (&[1, 5, 0, 0, 0, 1, 2], Refusal::State),
+        (&[1, 5, 0, 11, 0, 1, 256], Refusal::State),
     ];
     for (image, refusal) in images {
         assert_eq!(load(image, &mut m.memory, &mut m.tables), Err(refusal));

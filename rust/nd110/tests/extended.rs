@@ -715,13 +715,13 @@ fn older_image() {
 fn written() {
     let m = sex_executed(&both_forms());
     let m = m.with(&[], &[], &[(255, 0o101), (511, 0o202)]);
-    let mut image = vec![FILLED; 2 * 1024 + 690];
+    let mut image = vec![FILLED; 2 * 1024 + 707];
     assert_eq!(write(&m.state, &m.memory, &m.tables, &mut image), Ok(()));
     assert_eq!(image.pop(), Some(FILLED));
     assert_eq!(image[11..21], [3, 0, 0, 0, 28, 4, 0, 0, 0, 512]);
-    assert_eq!(image[21 + 2048 + 128 + 27], 1);
-    assert_eq!(image[21 + 2048 + 128 + 28 + 257], 0o140001);
-    assert_eq!(image[21 + 2048 + 128 + 28 + 511], 0o202);
+    assert_eq!(image[26 + 2048 + 128 + 27], 1);
+    assert_eq!(image[26 + 2048 + 128 + 28 + 257], 0o140001);
+    assert_eq!(image[26 + 2048 + 128 + 28 + 511], 0o202);
     let mut again = Machine::new(2);
     again.memory.fill(FILLED);
     again.tables.fill(FILLED);
@@ -731,7 +731,7 @@ fn written() {
     let owned = Owned::load(&image, 2).unwrap();
     assert_eq!(owned.control(Control::Extended), 1);
     assert_eq!(owned.write(), Ok(image));
-    let mut short = vec![FILLED; 2 * 1024 + 688];
+    let mut short = vec![FILLED; 2 * 1024 + 705];
     let written = write(&m.state, &m.memory, &m.tables, &mut short);
     assert_eq!(written, Err(Refusal::Output));
     assert!(short.iter().all(|word| *word == FILLED));

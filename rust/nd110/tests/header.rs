@@ -31,12 +31,14 @@ fn argument_of_c(text: &str) -> (String, String) {
     let (kind, name) = (text[..at].trim(), &text[at..]);
     let rust = match kind {
         "size_t" => "usize",
+        "uint8_t" => "u8",
         "uint16_t" => "u16",
         "uint64_t" => "u64",
         "uint16_t *" => "*mut u16",
         "uint64_t *" => "*mut u64",
         "nd110_state *" => "*mut State",
         "const uint16_t *" => "*const u16",
+        "const uint64_t *" => "*const u64",
         other => panic!("unknown C type '{other}' of '{name}'"),
     };
     (name.to_string(), rust.to_string())
@@ -130,6 +132,10 @@ fn numbers() {
         ("SHORT_WORDS", SHORT_WORDS),
         ("LONG_WORDS", LONG_WORDS),
         ("DONE", 0),
+        ("TICK", TICK.into()),
+        ("READ_OUT", READ_OUT.into()),
+        ("TYPED", TYPED.into()),
+        ("NO_CHARACTER", NO_CHARACTER.into()),
     ]
     .map(|(name, value)| (name.to_string(), value))
     .into();
@@ -206,8 +212,8 @@ fn places() {
         Register::T,
         Register::X,
     ];
-    let [ours, control] = &enumerated()[..] else {
-        panic!("two lists of names");
+    let [ours, control, devices] = &enumerated()[..] else {
+        panic!("three lists of names");
     };
     assert_eq!(ours.len(), registers.len());
     for (at, register) in registers.into_iter().enumerate() {
@@ -230,6 +236,13 @@ fn places() {
         let name = format!("ND110_{}", upper(&word));
         assert_eq!(control[PCR + 1 + at], (name, word as usize));
     }
+    assert_eq!(devices.len(), Device::ALL.len());
+    for (at, word) in Device::ALL.into_iter().enumerate() {
+        assert_eq!(word as usize, at);
+        assert_eq!(devices[at], (format!("ND110_{}", upper(&word)), at));
+    }
+    assert_eq!(128 + PCR + 16 + ADDED.len(), FIRST_DEVICE);
+    assert!(HEADER.contains("#define ND110_DEVICE(number) (156 + (number))"));
 }
 
 /// The fields of the header's record: each `uint16_t ..;`.
@@ -247,14 +260,15 @@ fn fields() -> Vec<String> {
         .collect()
 }
 
-/// The record is the state in image order: registers of sixteen levels, the control words, the PCRs, and the control
-/// words behind them.
+/// The record is the state in image order: registers of sixteen levels, the control words, the PCRs, the control words
+/// behind them, and the devices' words.
 #[test]
 fn record() {
     let mut ours = vec!["registers[16][8]".to_string()];
     ours.extend(CONTROLS.iter().map(|word| upper(word).to_lowercase()));
     ours.push("pcr[16]".to_string());
     ours.extend(ADDED.iter().map(|word| upper(word).to_lowercase()));
+    ours.extend(Device::ALL.iter().map(|word| upper(word).to_lowercase()));
     assert_eq!(fields(), ours);
-    assert_eq!(16 * 8 + CONTROLS.len() + 16 + ADDED.len(), STATE_WORDS);
+    assert_eq!(FIRST_DEVICE + Device::ALL.len(), STATE_WORDS);
 }

@@ -305,12 +305,12 @@ fn images() {
     for held in [0, 1] {
         let mut m = faulting_after(2);
         m.state.0[HELD] = held;
-        let mut image = vec![0o125252; MEMORY + 689];
+        let mut image = vec![0o125252; MEMORY + 706];
         assert_eq!(write(&m.state, &m.memory, &m.tables, &mut image), Ok(()));
         assert_eq!(image[11..16], [3, 0, 0, 0, 28]);
-        assert_eq!(image[21 + MEMORY + 128 + 9], 0o040102);
-        assert_eq!(image[21 + MEMORY + 128 + 26], held);
-        assert_eq!(image[21 + MEMORY + 128 + 28 + 64], 0o166000);
+        assert_eq!(image[26 + MEMORY + 128 + 9], 0o040102);
+        assert_eq!(image[26 + MEMORY + 128 + 26], held);
+        assert_eq!(image[26 + MEMORY + 128 + 28 + 64], 0o166000);
         let mut again = Machine::new(&[], &[], &[]);
         again.memory.fill(0o125252);
         again.tables.fill(0o125252);
@@ -320,7 +320,7 @@ fn images() {
         assert_eq!(owned.control(Control::PgsHeld), held);
         assert_eq!(owned.write(), Ok(image));
     }
-    assert_eq!(IMAGE_EXTRA, 689);
+    assert_eq!(IMAGE_EXTRA, 706);
 }
 
 /// Entries of kind 3. One of 26 words, as written before there were 27, leaves word 26 as 0; of 27 it is the image's; 2

@@ -150,19 +150,20 @@ fn largest_image_again() {
     assert_eq!(part(LAST, 2), Err(Refusal::View));
     assert_eq!(part(LARGEST, 1), Err(Refusal::View));
     assert_eq!(part(0, LARGEST).map(<[u16]>::len), Ok(LARGEST));
-    let mut image = vec![FILLED; LARGEST + 689 + 1];
-    let written = write(&m.state, &m.memory, &m.tables, &mut image[..LARGEST + 688]);
+    let mut image = vec![FILLED; LARGEST + 706 + 1];
+    let written = write(&m.state, &m.memory, &m.tables, &mut image[..LARGEST + 705]);
     assert_eq!(written, Err(Refusal::Output));
     assert!(image.iter().all(|word| *word == FILLED));
     assert_eq!(write(&m.state, &m.memory, &m.tables, &mut image), Ok(()));
     assert_eq!(image.pop(), Some(FILLED));
     let contents = [
-        4, 1, 0, 0, 256, 0, 2, 0, 0, 0, 128, 3, 0, 0, 0, 28, 4, 0, 0, 0, 512,
+        5, 1, 0, 0, 256, 0, 2, 0, 0, 0, 128, 3, 0, 0, 0, 28, 4, 0, 0, 0, 512, 5, 0, 0, 0, 12,
     ];
-    assert_eq!(image[..21], contents);
-    assert_eq!(differ(&image[21..21 + LARGEST], &m.memory), None);
-    assert_eq!(image[21 + LARGEST..][..156], m.state.0);
-    assert_eq!(image[21 + LARGEST + 156..], m.tables);
+    assert_eq!(image[..26], contents);
+    assert_eq!(differ(&image[26..26 + LARGEST], &m.memory), None);
+    assert_eq!(image[26 + LARGEST..][..156], m.state.0[..156]);
+    assert_eq!(image[26 + LARGEST + 156..][..512], m.tables);
+    assert_eq!(image[26 + LARGEST + 156 + 512..], m.state.0[156..]);
     let owned = Owned::load(&image, 16_384).unwrap();
     assert_eq!(*owned.state(), m.state);
     assert_eq!(differ(owned.memory(), &m.memory), None);
@@ -172,7 +173,7 @@ fn largest_image_again() {
 /// One page more than the most, and one word less than it: 1.
 #[test]
 fn sizes_about_the_largest() {
-    assert_eq!((MEMORY_MOST, STATE_WORDS, IMAGE_EXTRA), (LARGEST, 156, 689));
+    assert_eq!((MEMORY_MOST, STATE_WORDS, IMAGE_EXTRA), (LARGEST, 168, 706));
     let mut m = Machine::new(16_385);
     for len in [16_778_240, 16_777_217, 16_777_215] {
         m.memory.truncate(len);

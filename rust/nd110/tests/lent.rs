@@ -3,13 +3,13 @@
 //! sets, is written by hand from document 01.
 
 use nd110::{
-    Control, IMAGE_EXTRA, MEMORY_MOST, Machine, PAGE_WORDS, Reason, Refusal, Register, State,
-    TABLE_WORDS, Target, load, raise, raise_lent, run, run_to_interrupt, step, step_lent, view,
-    write,
+    Control, Device, IMAGE_EXTRA, Input, MEMORY_MOST, Machine, PAGE_WORDS, Reason, Refusal,
+    Register, State, TABLE_WORDS, Target, load, raise, raise_lent, read_out, run, run_to_interrupt,
+    run_with_input, step, step_lent, tick, type_character, view, write,
 };
 
 // State words: registers at 8 * level + number, control words from 128 on, sixteen PCRs, then whether PGS is held and
-// the extended flag.
+// the extended flag; the devices' words, those of the clock, of the input and of the output.
 const P_0: usize = 2;
 const A_0: usize = 5;
 const T_0: usize = 6;
@@ -22,28 +22,40 @@ const PGS: usize = 137;
 const PCR: usize = 138;
 const HELD: usize = 154;
 const EXTENDED: usize = 155;
+const DEVICES: usize = 156;
+const UNREAD: usize = 160;
 
 const TRA_PGS: u16 = 0o150003;
 const SEX: u16 = 0o150406;
 const REX: u16 = 0o150407;
 /// The first code of the class that goes by physical address, T and X: displacement in bits 5-3, operation in 2-0.
 const BY_T_AND_X: u16 = 0o143300;
+/// IOX of the terminal's first register; the other seven follow, and the clock's four are at 164010.
+const IOX_TERMINAL: u16 = 0o164300;
+const IOX_CLOCK: u16 = 0o164010;
+/// IDENT of levels 10, 12 and 13.
+const IDENTS: [u16; 3] = [0o143604, 0o143622, 0o143643];
 
 /// The bits that a control word may have, by document 01: level, interrupts on, paging on, stopped, PID, PIE, PVL, IID,
-/// IIE, PGS, then sixteen PCRs, and by document 02, cards 3 and 4, whether PGS is held and the extended flag. A word is
-/// in range if it has no other bit.
-const CONTROL_BITS: [u16; 28] = {
-    let mut bits = [0o003603; 28];
+/// IIE, PGS, then sixteen PCRs, and by document 02, cards 3 and 4, whether PGS is held and the extended flag; then, by
+/// card 1, those of the devices' words: characters are the seventh and the last, the length is the eighth. A word is in
+/// range if it has no other bit.
+const CONTROL_BITS: [u16; 40] = {
+    let mut bits = [0o003603; 40];
     let first = [
         0o17, 1, 1, 1, 0o177777, 0o177777, 0o17, 0o3776, 0o3776, 0o140377,
     ];
+    let last = [1, 1, 1, 1, 1, 1, 1, 1, 0o377, 3, 1, 1, 1, 0o377];
     let mut at = 0;
     while at < first.len() {
         bits[at] = first[at];
         at += 1;
     }
-    bits[26] = 1;
-    bits[27] = 1;
+    at = 0;
+    while at < last.len() {
+        bits[26 + at] = last[at];
+        at += 1;
+    }
     bits
 };
 
@@ -86,9 +98,10 @@ impl Pieces {
         }
     }
 
-    /// Any words, of sixteen in memory one TRA PGS, two SEX or REX, one by T and X; control words in range, paging
-    /// mostly on, most levels on ring 3, a T of 0 on every second; entries of the machine's mode that mostly permit
-    /// all, in pages that are there. One in sixteen has 64 pages, so that it can go on with paging off.
+    /// Any words, of sixteen in memory one TRA PGS, two SEX or REX, one by T and X, two for the devices; control words
+    /// and devices' words in range, paging mostly on, most levels on ring 3, a T of 0 on every second; entries of the
+    /// machine's mode that mostly permit all, in pages that are there. One in sixteen has 64 pages, so that it can go on
+    /// with paging off.
     fn random(random: &mut Random) -> Pieces {
         let pages = match random.below(16) {
             0 => 64,
@@ -101,6 +114,11 @@ impl Pieces {
             1 => SEX,
             2 => REX,
             3 => BY_T_AND_X + random.below(64),
+            4 => IOX_TERMINAL + random.below(8),
+            5 => match random.below(7) {
+                of @ 0..3 => IDENTS[usize::from(of)],
+                of => IOX_CLOCK + of - 3,
+            },
             _ => random.word(),
         });
         for sts in m.state.0[..LEVEL].iter_mut().step_by(8) {
@@ -144,6 +162,18 @@ impl Pieces {
 
     fn raise(&mut self, level: u16) -> Result<(), Refusal> {
         raise(&mut self.state, level, &self.memory, &self.tables)
+    }
+
+    fn tick(&mut self) -> Result<(), Refusal> {
+        tick(&mut self.state, &self.memory, &self.tables)
+    }
+
+    fn type_character(&mut self, character: u8) -> Result<(), Refusal> {
+        type_character(&mut self.state, character, &self.memory, &self.tables)
+    }
+
+    fn read_out(&mut self) -> Result<Option<u8>, Refusal> {
+        read_out(&mut self.state, &self.memory, &self.tables)
     }
 
     fn raise_lent(&mut self, level: u16) -> Result<(), Refusal> {
@@ -193,6 +223,14 @@ struct Seen {
     extended: u32,
     set: u32,
     cleared: u32,
+    /// Steps that changed a device's word, and of these those that answered an IDENT.
+    devices: u32,
+    identified: u32,
+    /// Ticks, characters taken and refused, characters read out.
+    ticks: u32,
+    typed: u32,
+    unread: u32,
+    read_out: u32,
 }
 
 impl Three {
@@ -225,6 +263,7 @@ impl Three {
         seen.tables += u32::from(was.tables != self.plain.tables);
         self.held(&was, seen, interrupt);
         self.extended(&was, seen, interrupt);
+        self.devices(&was, seen, interrupt);
         interrupt
     }
 
@@ -271,6 +310,63 @@ impl Three {
         assert!(was.memory == self.plain.memory, "memory");
     }
 
+    /// By document 02, card 1: a step that changes a device's word gives no interrupt and changes nothing else but P, A,
+    /// and the PID bits of levels 10, 12 and 13, of which it may set one; an IDENT clears a flip-flop, and A is 1 then.
+    fn devices(&self, was: &Pieces, seen: &mut Seen, interrupt: u16) {
+        let (mut before, after) = (was.state.0, self.plain.state.0);
+        if after[DEVICES..] == before[DEVICES..] {
+            return;
+        }
+        seen.devices += 1;
+        let level = usize::from(before[LEVEL]);
+        for asks in [158, 161, 166] {
+            if after[asks] < before[asks] {
+                seen.identified += 1;
+                assert_eq!(after[8 * level + A_0], 1);
+                assert_eq!(after[PID], before[PID]);
+            }
+        }
+        before[DEVICES..].copy_from_slice(&after[DEVICES..]);
+        before[8 * level + P_0] = before[8 * level + P_0].wrapping_add(1);
+        before[8 * level + A_0] = after[8 * level + A_0];
+        assert!([0, 0o2000, 0o10000, 0o20000].contains(&(after[PID] ^ before[PID])));
+        assert_eq!(after[PID] | before[PID], after[PID]);
+        before[PID] = after[PID];
+        assert!(after[PCR + level] <= before[PCR + level]);
+        before[PCR + level] = after[PCR + level];
+        assert_eq!(after, before);
+        assert_eq!(interrupt, 0);
+        assert!(was.memory == self.plain.memory, "memory");
+    }
+
+    /// Now and then a tick, a character or a read out of each.
+    fn hand_in(&mut self, random: &mut Random, seen: &mut Seen) {
+        match random.below(32) {
+            0 => {
+                let answer = self.plain.tick();
+                assert_eq!([self.lent.tick(), self.owned.tick()], [answer; 2]);
+                seen.ticks += u32::from(answer.is_ok());
+            }
+            1 => {
+                let character = random.word() as u8;
+                let unread = self.plain.state.0[UNREAD] != 0;
+                let answer = self.plain.type_character(character);
+                assert_eq!(self.lent.type_character(character), answer);
+                assert_eq!(self.owned.type_character(character), answer);
+                assert_eq!(answer == Err(Refusal::Unread), unread);
+                seen.typed += u32::from(answer.is_ok());
+                seen.unread += u32::from(unread);
+            }
+            2 => {
+                let answer = self.plain.read_out();
+                assert_eq!([self.lent.read_out(), self.owned.read_out()], [answer; 2]);
+                seen.read_out += u32::from(answer.is_ok_and(|character| character.is_some()));
+            }
+            _ => return,
+        }
+        self.equal();
+    }
+
     /// A state word stored by the host.
     fn store(&mut self, at: usize, word: u16) {
         self.plain.state.0[at] = word;
@@ -278,9 +374,9 @@ impl Three {
         self.owned.state_mut().0[at] = word;
     }
 
-    /// What a host does between two steps: now and then a raise, of a level that may be refused, or PGS held or not,
-    /// and rarely other levels pending. A machine that has stopped or given an interrupt goes on elsewhere, mostly in
-    /// its first mode.
+    /// What a host does between two steps: now and then a raise, of a level that may be refused, or something for the
+    /// devices, or PGS held or not, and rarely other levels pending. A machine that has stopped or given an interrupt
+    /// goes on elsewhere, mostly in its first mode.
     fn host(&mut self, random: &mut Random, seen: &mut Seen, interrupt: u16) {
         if random.below(16) == 0 {
             let level = random.below(17);
@@ -290,6 +386,7 @@ impl Three {
             seen.raises += u32::from(answer.is_ok());
             self.equal();
         }
+        self.hand_in(random, seen);
         if random.below(16) == 0 {
             self.store(HELD, random.below(2));
         }
@@ -348,15 +445,21 @@ fn random_machines() {
         ("faults that PGS took", seen.taken),
         ("faults that found it held", seen.late),
         ("steps in extended mode", seen.extended),
+        ("ticks", seen.ticks),
+        ("characters refused", seen.unread),
     ] {
         assert!(count > 1000, "{count} {what}");
     }
     for (what, count) in [
-        ("released PGS", seen.released),
-        ("set the extended flag", seen.set),
-        ("cleared it", seen.cleared),
+        ("steps that released PGS", seen.released),
+        ("steps that set the extended flag", seen.set),
+        ("steps that cleared it", seen.cleared),
+        ("steps that changed a device's word", seen.devices),
+        ("steps that answered an IDENT", seen.identified),
+        ("characters typed", seen.typed),
+        ("characters read out", seen.read_out),
     ] {
-        assert!(count > 100, "{count} steps that {what}");
+        assert!(count > 100, "{count} {what}");
     }
 }
 
@@ -397,8 +500,8 @@ fn sizes() {
     }
 }
 
-/// Each bit of each control word set, on a machine that is all 0 and on random ones: taken if the word may have it,
-/// else refused 2.
+/// Each bit of each control word and of each device's word set, on a machine that is all 0 and on random ones: taken if
+/// the word may have it, else refused 2.
 #[test]
 fn control_words() {
     let mut random = Random(0x9e37_79b9_7f4a_7c15);
@@ -420,8 +523,9 @@ fn control_words() {
             }
         }
     }
-    // 4 + 3 + 32 + 4 + 20 + 10 of the first ten words, 6 of each PCR, 1 of each of the last two
-    assert_eq!(taken, starts.len() * (73 + 16 * 6 + 2));
+    // 4 + 3 + 32 + 4 + 20 + 10 of the first ten words, 6 of each PCR, 1 of each of the two behind them; of the devices 8
+    // of each character, 2 of the length, 1 of each other
+    assert_eq!(taken, starts.len() * (73 + 16 * 6 + 2 + 16 + 2 + 9));
 }
 
 /// An STS of 256 or more, on each level, whichever runs.
@@ -573,7 +677,7 @@ fn machine_stores() {
 #[test]
 fn machine_as_the_functions() {
     let mut random = Random(0xdead_beef_0bad_cafe);
-    let mut spent = 0;
+    let (mut spent, mut told) = (0, 0);
     for _ in 0..200 {
         let mut m = Pieces::random(&mut random);
         let mut machine = m.owned();
@@ -588,12 +692,39 @@ fn machine_as_the_functions() {
             assert!(m.is(&machine));
             let level = random.below(17);
             assert_eq!(machine.raise(level), m.raise(level));
+            assert_eq!(machine.tick(), m.tick());
+            let character = random.word() as u8;
+            let typed = m.type_character(character);
+            assert_eq!(machine.type_character(character), typed);
+            assert_eq!(machine.read_out(), m.read_out());
             assert!(m.is(&machine));
+            told += same_input_run(&mut m, &mut machine, &mut random);
         }
         same_views(&m, &machine, &mut random);
         same_image(&m, &machine);
     }
     assert!(spent > 100, "{spent} runs of as many steps as asked");
+    assert!(told > 100, "{told} inputs within a run");
+}
+
+/// One run with device input of both; how many inputs were handed in.
+fn same_input_run(m: &mut Pieces, machine: &mut Machine, random: &mut Random) -> usize {
+    let steps = u64::from(random.below(10));
+    let inputs: Vec<(u64, Input)> = (0..random.below(5))
+        .map(|_| {
+            let input = match random.below(4) {
+                0 => Input::Raise(random.below(17)),
+                1 => Input::Tick,
+                2 => Input::Typed(random.word() as u8),
+                _ => Input::ReadOut,
+            };
+            (u64::from(random.below(6)), input)
+        })
+        .collect();
+    let ran = run_with_input(&mut m.state, &mut m.memory, &mut m.tables, steps, &inputs);
+    assert_eq!(machine.run_with_input(steps, &inputs), ran);
+    assert!(m.is(machine));
+    ran.expect("in range").told.len()
 }
 
 fn same_views(m: &Pieces, machine: &Machine, random: &mut Random) {
@@ -620,6 +751,8 @@ fn same_image(m: &Pieces, machine: &Machine) {
     assert_eq!(machine.control(Control::PgsHeld), machine.state().0[HELD]);
     let extended = machine.control(Control::Extended);
     assert_eq!(extended, machine.state().0[EXTENDED]);
+    let devices = Device::ALL.map(|word| machine.device(word));
+    assert_eq!(devices, machine.state().0[DEVICES..]);
 }
 
 /// Short, and of a state out of range too.

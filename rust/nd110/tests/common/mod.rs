@@ -1,8 +1,9 @@
-//! A machine in its three pieces, by every form of the step, for the tests of extended mode.
+//! A machine in its three pieces, by every form of the step, for the tests of extended mode and of the devices.
 
 use nd110::{
-    PAGE_WORDS, Reason, Refusal, State, TABLE_WORDS, Target, load, raise, raise_lent, run,
-    run_to_interrupt, step, step_lent, view, view_into, write,
+    Input, InputRun, PAGE_WORDS, Reason, Refusal, State, TABLE_WORDS, Target, load, raise,
+    raise_lent, read_out, run, run_to_interrupt, run_with_input, step, step_lent, tick,
+    type_character, view, view_into, write,
 };
 
 // State words: registers at 8 * level + number, control words from 128 on.
@@ -124,6 +125,31 @@ impl Machine {
         run_to_interrupt(&mut self.state, &mut self.memory, &mut self.tables, steps)
     }
 
+    pub fn tick(&mut self) -> Result<(), Refusal> {
+        tick(&mut self.state, &self.memory, &self.tables)
+    }
+
+    pub fn type_character(&mut self, character: u8) -> Result<(), Refusal> {
+        type_character(&mut self.state, character, &self.memory, &self.tables)
+    }
+
+    pub fn read_out(&mut self) -> Result<Option<u8>, Refusal> {
+        read_out(&mut self.state, &self.memory, &self.tables)
+    }
+
+    pub fn run_with_input(
+        &mut self,
+        steps: u64,
+        inputs: &[(u64, Input)],
+    ) -> Result<InputRun, Refusal> {
+        let Machine {
+            state,
+            memory,
+            tables,
+        } = self;
+        run_with_input(state, memory, tables, steps, inputs)
+    }
+
     /// The machine after one step, which gives this interrupt whichever form makes it.
     pub fn stepped(&self, interrupt: u16, what: &str) -> Machine {
         let [mut plain, mut lent, mut ran, mut first] = [(); 4].map(|()| self.clone());
@@ -175,6 +201,11 @@ impl Machine {
         assert_eq!(raised, Err(refusal));
         let raised = raise_lent(&mut self.state, 10, &self.memory, &self.tables);
         assert_eq!(raised, Err(refusal));
+        assert_eq!(self.tick(), Err(refusal));
+        assert_eq!(self.type_character(0o101), Err(refusal));
+        assert_eq!(self.read_out(), Err(refusal));
+        let inputs = [(0, Input::Tick)];
+        assert_eq!(self.run_with_input(10, &inputs), Err(refusal));
         let written = write(&self.state, &self.memory, &self.tables, out);
         assert_eq!(written, Err(refusal));
         assert!(*self == was, "a refused call changed a word");
