@@ -196,7 +196,7 @@ pub enum Transfer {
 // The privileged instructions. A number is a level, of four bits, a displacement, or a device's address or line. IOX's
 // address has eleven bits in document 002. The 64 bits are the compiler's choice, not the document's: with them what an
 // instruction holds starts at byte 8, which is faster (docs/BENCHMARK.md). No definition depends on the width: the
-// decoder gives the low eleven bits of the word, and nothing looks at them as long as no device is fitted.
+// decoder gives the low eleven bits of the word, and a register is found by all bits of the number.
 pub enum System {
     Control(ControlOp),
     TraPgc,
