@@ -8,9 +8,12 @@ pub mod Window
 pub mod Permits
 pub mod Tables
 pub mod Marks
+pub mod Counts
 pub mod Runs
+pub mod References
 pub mod Examples
 pub mod DeviceExamples
+pub mod ReferenceExamples
 pub mod Packing
 pub mod ControlWords
 pub mod Bits

@@ -1,6 +1,6 @@
 -- Steps and reasons of a run, and runs of runs.
 -- Assumes nothing.
-use Prim.Native.Nat.{ℕ, zero, suc, _+_, _≤_}
+use Prim.Native.Nat.{ℕ, zero, suc, _+_, _%_, _<_, _≤_}
 use mathlib.Core.Path.{_≡_, refl, sym, ap, _∙_}
 use mathlib.Core.Bool.{Bool, true, false, cond, not, _&&_}
 use mathlib.Core.List.{List}
@@ -8,12 +8,13 @@ use native.Mathlib.Nat.{add-zero, zero-add, add-suc, suc-add}
 use native.Mathlib.Omega.{arith}
 use lib.Dec.{eqb}
 use Rattle.isa.specs.Step.{Turn, step, isStopped, changeDue}
-use Rattle.isa.specs.Run.{Run, ended, afterStep, runFrom}
+use Rattle.isa.specs.Run.{Run, ended, sumRange, countedRun, afterStep, runFrom}
 use Rattle.isa.specs.Answers.{reasonNumber}
 use Rattle.isa.specs.DeviceInput.{isSpent}
 use Rattle.isa.specs.declared.machine.State.{State}
 use Rattle.isa.specs.declared.answer.Reason.{Reason}
 use Rattle.isa.specs.declared.answer.Reason.the-variants.{Stopped, Level, Spent, Interrupt}
+use Rattle.isa.proofs.Counts.{counted-run-twice, counted-run-low, counted-run-none, run-sum-below}
 
 -- after k steps, with n to go: at least k were taken, at most n more, and exactly n more where the run is spent (reason
 -- 2)
@@ -37,7 +38,9 @@ one-more n k r h =
 
 after-taken : (first : Bool) (n k : ℕ) (rest : ℕ → State → List ℕ → List ℕ → Run) (r : Turn)
     → ((s : State) (m t : List ℕ) → Taken n (suc k) (rest (suc k) s m t)) → Taken (suc n) k (afterStep first rest k r)
-after-taken first n k rest r h = one-more n k (afterStep first rest k r) (go (first && not (eqb (r .gave) 0)))
+after-taken first n k rest r h =
+    let q = go (first && not (eqb (r .gave) 0)) in
+    one-more n k (afterStep first rest k r) (record { least = q .least; most = q .most; spent = q .spent })
   where
     go : (x : Bool)
         → Taken n (suc k) (cond x (ended Interrupt (suc k) (r .state) (r .memory) (r .tables))
@@ -75,7 +78,14 @@ run-spent false k s m t h d = rw h
 
 -- the run with j steps before it
 abbrev pub later : ℕ → Run → Run
-later j r = ended (r .reason) (j + r .steps) (r .state) (r .memory) (r .tables)
+later j r = record {
+  state = r .state;
+  steps = j + r .steps;
+  reason = r .reason;
+  memory = r .memory;
+  tables = r .tables;
+  references = r .references;
+}
 
 -- what came of the tests before a step, and the rest
 before-later : (x y : Bool) (j k : ℕ) (s : State) (m t : List ℕ) (q r : Run) → q ≡ later j r
@@ -88,7 +98,7 @@ before-later false false j k s m t q r h = h
 after-later : (first : Bool) (n j k : ℕ) (r : Turn)
     → ((s : State) (m t : List ℕ) → runFrom first n (suc (j + k)) s m t ≡ later j (runFrom first n (suc k) s m t))
     → afterStep first (runFrom first n) (j + k) r ≡ later j (afterStep first (runFrom first n) k r)
-after-later first n j k r h = go (first && not (eqb (r .gave) 0))
+after-later first n j k r h = ap (countedRun (r .references)) (go (first && not (eqb (r .gave) 0)))
   where
     go : (x : Bool)
         → cond x (ended Interrupt (suc (j + k)) (r .state) (r .memory) (r .tables))
@@ -114,9 +124,24 @@ pub run-shift : (first : Bool) (n k : ℕ) (s : State) (m t : List ℕ)
 run-shift first n k s m t =
     ap (λ (i : ℕ). runFrom first n i s m t) (sym (add-zero k)) ∙ run-later first n k 0 s m t
 
--- the run r, and if it is spent the rest from where it ended
+-- the run r, and if it is spent the rest from where it ended, with the references of both
 abbrev pub onward : (ℕ → State → List ℕ → List ℕ → Run) → Run → Run
-onward rest r = cond (isSpent (r .reason)) (rest (r .steps) (r .state) (r .memory) (r .tables)) r
+onward rest r =
+    cond (isSpent (r .reason)) (countedRun (r .references) (rest (r .steps) (r .state) (r .memory) (r .tables))) r
+
+-- references before both
+counted-onward : (rest : ℕ → State → List ℕ → List ℕ → Run) (g : ℕ) (r : Run)
+    → countedRun g (onward rest r) ≡ onward rest (countedRun g r)
+counted-onward rest g r = go (isSpent (r .reason))
+  where
+    on : Run
+    on = rest (r .steps) (r .state) (r .memory) (r .tables)
+
+    go : (x : Bool)
+        → countedRun g (cond x (countedRun (r .references) on) r)
+        ≡ cond x (countedRun ((g + r .references) % sumRange) on) (countedRun g r)
+    go true = counted-run-twice g (r .references) on ∙ sym (counted-run-low (g + r .references) on)
+    go false = refl
 
 -- what came of the tests before a step, and the rest
 before-onward : (rest : ℕ → State → List ℕ → List ℕ → Run) (x y : Bool) (k : ℕ) (s : State) (m t : List ℕ) (q r : Run)
@@ -131,7 +156,12 @@ after-onward : (first : Bool) (a b k : ℕ) (r : Turn)
     → ((s : State) (m t : List ℕ)
     → runFrom first (a + b) (suc k) s m t ≡ onward (runFrom first b) (runFrom first a (suc k) s m t))
     → afterStep first (runFrom first (a + b)) k r ≡ onward (runFrom first b) (afterStep first (runFrom first a) k r)
-after-onward first a b k r h = go (first && not (eqb (r .gave) 0))
+after-onward first a b k r h =
+    let x = first && not (eqb (r .gave) 0) in
+    let q =
+    cond x (ended Interrupt (suc k) (r .state) (r .memory) (r .tables))
+    (runFrom first a (suc k) (r .state) (r .memory) (r .tables)) in
+    ap (countedRun (r .references)) (go x) ∙ counted-onward (runFrom first b) (r .references) q
   where
     go : (x : Bool)
         → cond x (ended Interrupt (suc k) (r .state) (r .memory) (r .tables))
@@ -143,21 +173,23 @@ after-onward first a b k r h = go (first && not (eqb (r .gave) 0))
 
 -- with none to go before it, the rest makes the same tests again
 tests-again : (rest : ℕ → State → List ℕ → List ℕ → Run) (x y : Bool) (k : ℕ) (s : State) (m t : List ℕ) (q : Run)
+    → rest k s m t .references < sumRange
     → rest k s m t ≡ cond x (ended Stopped k s m t) (cond y (ended Level k s m t) q)
     → rest k s m t ≡ onward rest (cond x (ended Stopped k s m t) (cond y (ended Level k s m t) (ended Spent k s m t)))
-tests-again rest true y k s m t q h = h
-tests-again rest false true k s m t q h = h
-tests-again rest false false k s m t q h = refl
+tests-again rest true y k s m t q below h = h
+tests-again rest false true k s m t q below h = h
+tests-again rest false false k s m t q below h = sym (counted-run-none (rest k s m t) below)
 
 none-onward : (first : Bool) (b k : ℕ) (s : State) (m t : List ℕ)
     → runFrom first b k s m t ≡ onward (runFrom first b) (runFrom first 0 k s m t)
 none-onward first zero k s m t =
-    tests-again (runFrom first 0) (isStopped s) (first && changeDue s) k s m t (ended Spent k s m t) refl
+    tests-again (runFrom first 0) (isStopped s) (first && changeDue s) k s m t (ended Spent k s m t)
+    (run-sum-below first 0 k s m t) refl
 none-onward first (suc b) k s m t =
     tests-again (runFrom first (suc b)) (isStopped s) (first && changeDue s) k s m t
-    (afterStep first (runFrom first b) k (step s m t)) refl
+    (afterStep first (runFrom first b) k (step s m t)) (run-sum-below first (suc b) k s m t) refl
 
--- a run of a + b steps is the run of a and, if that is spent, of b from what it left
+-- a run of a + b steps is the run of a and, if that is spent, of b from what it left; its references are those of both
 pub run-sum : (first : Bool) (a b k : ℕ) (s : State) (m t : List ℕ)
     → runFrom first (a + b) k s m t ≡ onward (runFrom first b) (runFrom first a k s m t)
 run-sum first zero b k s m t =

@@ -13,6 +13,18 @@ pub decided : {A : Type 0} (P : A → Type 0) (b : Bool) {x y : A} → (b ≡ tr
 decided P true p q = p refl
 decided P false p q = q refl
 
+-- two values by one test, and by the same two tests
+pub alike : {A B : Type 0} (R : A → B → Type 0) (x : Bool) {a b : A} {u v : B} → R a u → R b v
+    → R (cond x a b) (cond x u v)
+alike R true h k = h
+alike R false h k = k
+
+pub alike-twice : {A B : Type 0} (R : A → B → Type 0) (x y : Bool) {a b c : A} {u v : B} → R a u → R b u → R c v
+    → R (cond x a (cond y b c)) (cond (x || y) u v)
+alike-twice R true y h k l = h
+alike-twice R false true h k l = k
+alike-twice R false false h k l = l
+
 -- no test has both outcomes
 pub no-both : false ≡ true → ⊥
 no-both = false≢true

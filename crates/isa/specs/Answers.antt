@@ -65,12 +65,17 @@ interruptGiven (Stepped n) = n
 interruptGiven (StepRefused r) = 0
 
 abbrev pub runNumber : RunAnswer → ℕ
-runNumber (Ran k w) = 0
+runNumber (Ran k w g) = 0
 runNumber (RunRefused r) = refusalNumber r
 
 abbrev pub stepsTaken : RunAnswer → ℕ
-stepsTaken (Ran k w) = k
+stepsTaken (Ran k w g) = k
 stepsTaken (RunRefused r) = 0
+
+-- document 02, card 7: "run answers the sum"; ruling 7.4: "A refused run tells no sum", so that this 0 is never told
+abbrev pub referencesMade : RunAnswer → ℕ
+referencesMade (Ran k w g) = g
+referencesMade (RunRefused r) = 0
 
 -- what a read out is answered: the character, or ruling 40's 256 for none; beside a refusal there is none
 abbrev pub sentNumber : SentAnswer → ℕ
@@ -115,7 +120,12 @@ abbrev pub steppedCall : Turn → StepCall
 steppedCall r = record { answer = Stepped (r .gave); state = r .state; memory = r .memory; tables = r .tables }
 
 abbrev pub ranCall : Run → RunCall
-ranCall r = record { answer = Ran (r .steps) (r .reason); state = r .state; memory = r .memory; tables = r .tables }
+ranCall r = record {
+  answer = Ran (r .steps) (r .reason) (r .references);
+  state = r .state;
+  memory = r .memory;
+  tables = r .tables;
+}
 
 -- "A refusal gives its number and leaves state and lent words"
 abbrev pub stepCallBy : Answer → State → List ℕ → List ℕ → StepCall
@@ -294,9 +304,9 @@ stepValues (StepRefused r) = []
 abbrev pub stepNumbers : StepAnswer → Told
 stepNumbers a = record { number = stepNumber a; values = stepValues a }
 
--- a run's are the steps taken and the reason
+-- a run's are the steps taken, the reason and the references made
 abbrev pub runValues : RunAnswer → List ℕ
-runValues (Ran k w) = k ∷ reasonNumber w ∷ []
+runValues (Ran k w g) = k ∷ reasonNumber w ∷ g ∷ []
 runValues (RunRefused r) = []
 
 abbrev pub runNumbers : RunAnswer → Told
@@ -327,7 +337,7 @@ stepTold s m t = tellsBy (stateTests s m t) (step s m t .gave ∷ [])
 unfoldable pub runTold : Bool → ℕ → State → List ℕ → List ℕ → Told
 runTold first n s m t =
     let r = runFrom first n 0 s m t in
-    tellsBy (stateTests s m t) (r .steps ∷ reasonNumber (r .reason) ∷ [])
+    tellsBy (stateTests s m t) (r .steps ∷ reasonNumber (r .reason) ∷ r .references ∷ [])
 
 -- "Raise, by a device, sets the level's PID bit: 2; 3, a level other than 10 to 13 and 15."
 unfoldable pub raiseTold : State → ℕ → List ℕ → List ℕ → Told

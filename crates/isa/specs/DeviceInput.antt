@@ -5,7 +5,7 @@ use mathlib.Core.Bool.{Bool, true, false, cond, _&&_}
 use mathlib.Core.List.{List, [], _∷_}
 use lib.Dec.{ltb, leb, eqb}
 use Rattle.isa.specs.Devices.{characterRange}
-use Rattle.isa.specs.Run.{Run, runFrom}
+use Rattle.isa.specs.Run.{Run, countedRun, runFrom}
 use Rattle.isa.specs.Answers.{StateCall, answerNumber, reasonNumber, characterSentOf, stateAnswer, stateTests}
 use Rattle.isa.specs.Answers.{levelAnswer, raiseCallBy, tickCallBy, unreadAnswer, typeCallBy, readOutCallBy}
 use Rattle.isa.specs.Answers.{Told, tellsBy}
@@ -64,11 +64,16 @@ isSpent Level = false
 isSpent Spent = true
 isSpent Interrupt = false
 
+-- .. with g references before it
+abbrev pub countedInputRun : ℕ → InputRun → InputRun
+countedInputRun g r = record { run = countedRun g (r .run); told = r .told }
+
 -- "if spent there takes the input", and the rest follows; "a run that has ended takes no further input"
 abbrev pub handed : (ℕ → State → List ℕ → List ℕ → InputRun) → DeviceInput → Run → InputRun
 handed rest i r =
     let c = inputCall i (r .state) in
-    cond (isSpent (r .reason)) (telling (c .told) (rest (r .steps) (c .state) (r .memory) (r .tables))) (alone r)
+    let on = countedInputRun (r .references) (rest (r .steps) (c .state) (r .memory) (r .tables)) in
+    cond (isSpent (r .reason)) (telling (c .told) on) (alone r)
 
 -- "A run goes to the next input's step (at once if that is passed), tests stopped and level as ever"; "or, if that is
 -- beyond n, to n without this input or any behind it". At most n steps in all, k of them taken; where the input's step
@@ -90,7 +95,7 @@ pub record InputRunCall : Type 0 where
 
 abbrev pub inputRanCall : InputRun → InputRunCall
 inputRanCall r = record {
-  answer = Ran (r .run .steps) (r .run .reason);
+  answer = Ran (r .run .steps) (r .run .reason) (r .run .references);
   told = r .told;
   state = r .run .state;
   memory = r .run .memory;
@@ -109,7 +114,7 @@ inputRunCall n gs s m t = inputRunCallBy (stateAnswer s m t) n gs s m t
 unfoldable pub inputRunTold : ℕ → List Given → State → List ℕ → List ℕ → Told
 inputRunTold n gs s m t =
     let r = inputRunFrom n gs 0 s m t in
-    tellsBy (stateTests s m t) (r .run .steps ∷ reasonNumber (r .run .reason) ∷ [])
+    tellsBy (stateTests s m t) (r .run .steps ∷ reasonNumber (r .run .reason) ∷ r .run .references ∷ [])
 
 -- ---- inputs as words
 

@@ -16,5 +16,6 @@ pub mod Run
 pub mod Images
 pub mod Answers
 pub mod DeviceInput
+pub mod References
 pub mod Isolation
 pub mod Cases

@@ -1,5 +1,5 @@
 -- Document 01, "Pages", and document 02, card 4: the two forms of an entry.
-use Prim.Native.Nat.{ℕ, _+_, _*_, _/_, _%_}
+use Prim.Native.Nat.{ℕ, suc, _+_, _*_, _/_, _%_}
 use mathlib.Core.Bool.{Bool, cond, not, _&&_, _||_}
 use mathlib.Core.List.{List, [], _∷_}
 use lib.ListN.{getD, set, drop}
@@ -205,23 +205,25 @@ marked t words r x =
     cond (r .paging && not (inWindow r (x .address)) && passes (translate t words r x))
     (withMark (r .extended) t i (x .kind)) t
 
--- What a list of accesses leaves: the tables with their marks, where each goes, and the first fault, or NoAccess if all
--- passed.
+-- What a list of accesses leaves: the tables with their marks, where each goes, the first fault, or NoAccess if all
+-- passed, and how many were made. Document 02, card 7: "tested accesses of a faulting instruction count up to and with
+-- the failing one."
 pub record Tested : Type 0 where
   pub tables : List ℕ
   pub places : List Translation
   pub fault : Translation
+  pub made : ℕ
 
 abbrev pub alsoAt : Translation → Tested → Tested
-alsoAt x r = record { tables = r .tables; places = x ∷ r .places; fault = r .fault }
+alsoAt x r = record { tables = r .tables; places = x ∷ r .places; fault = r .fault; made = suc (r .made) }
 
 -- "then accesses in order, all of them tested before the first store": one by one, up to the first that fails. Ruling
 -- 1: the marks of those that passed stay. Ruling 5: later ones see the marks of earlier ones.
 abbrev pub testAll : List ℕ → ℕ → Rights → List Access → Tested
-testAll t words r [] = record { tables = t; places = []; fault = NoAccess }
+testAll t words r [] = record { tables = t; places = []; fault = NoAccess; made = 0 }
 testAll t words r (x ∷ xs) =
     cond (passes (translate t words r x)) (alsoAt (translate t words r x) (testAll (marked t words r x) words r xs))
-    (record { tables = t; places = []; fault = translate t words r x })
+    (record { tables = t; places = []; fault = translate t words r x; made = 1 })
 
 -- the words at the places; 0 where a place is not one to load from, which no completion looks at
 abbrev pub wordAt : List ℕ → List ℕ → Translation → ℕ

@@ -80,6 +80,11 @@ firstPlace form words o p = physicalPlace form words (transferKind o) p
 abbrev pub secondPlace : Bool → ℕ → Transfer → ℕ → Translation
 secondPlace form words o p = cond (twoWords o) (physicalPlace form words (transferKind o) (p + 1)) NoAccess
 
+-- the accesses made, of which the first went to the place x: "1, LDDTX and STDTX 2" (ruling 7.3), up to and with a
+-- failing one
+abbrev pub transferMade : Transfer → Translation → ℕ
+transferMade o x = cond (passes x && twoWords o) 2 1
+
 -- "p, then p + 1" (ruling R4): the first that fails; where none does, it is one that passes
 abbrev pub firstFault : Translation → Translation → Translation
 firstFault x y = cond (passes x) y x

@@ -18,7 +18,7 @@ use Rattle.isa.specs.System.{highestIn, withLevels, withPid, withInterna
 use Rattle.isa.specs.Pages.{slotOf, entryAt, translate, marked, testAll, Tested, faultOf, pgsAfter, passes}
 use Rattle.isa.specs.Pages.{firstStatus, heldAfter, wordAt, wordsAt, wordsOf, storeAll, rightsOf, lowered}
 use Rattle.isa.specs.Physical.{transferAddress, firstPlace, secondPlace, firstFault, transferStores}
-use Rattle.isa.specs.Physical.{transferred}
+use Rattle.isa.specs.Physical.{transferred, transferMade}
 use Rattle.isa.specs.InputOutput.{registerOf, answers, exchanged, lineOf, flipFlop, identified}
 use Rattle.isa.specs.declared.machine.Control.{Control}
 use Rattle.isa.specs.declared.machine.Core.{Core}
@@ -49,24 +49,45 @@ use Rattle.isa.specs.declared.answer.Near.{Near}
 
 -- ---- what a step leaves
 
--- of the running level: its core, the interrupt given and what is left to be done; memory and tables
+-- of the running level: its core, the interrupt given, what is left to be done and the references made; memory and
+-- tables
 pub record Part : Type 0 where
   pub near : Near
   pub memory : List ℕ
   pub tables : List ℕ
 
 abbrev pub part : Core → ℕ → Far → List ℕ → List ℕ → Part
-part c n far m t = record { near = record { core = c; gave = n; far = far }; memory = m; tables = t }
+part c n far m t =
+    record { near = record { core = c; gave = n; far = far; references = 0 }; memory = m; tables = t }
 
--- of the machine: the state, and the number of the interrupt given, or 0
+-- Document 02, card 7: "every caller passes the number up": the same with k references more
+abbrev pub counted : ℕ → Part → Part
+counted k r = record {
+  near =
+      record { core = r .near .core; gave = r .near .gave; far = r .near .far; references = k + r .near .references };
+  memory = r .memory;
+  tables = r .tables;
+}
+
+-- of the machine: the state, the number of the interrupt given, or 0, and the references made
 pub record Turn : Type 0 where
   pub state : State
   pub gave : ℕ
   pub memory : List ℕ
   pub tables : List ℕ
+  pub references : ℕ
 
 abbrev pub turn : State → ℕ → List ℕ → List ℕ → Turn
-turn s n m t = record { state = s; gave = n; memory = m; tables = t }
+turn s n m t = record { state = s; gave = n; memory = m; tables = t; references = 0 }
+
+abbrev pub countedTurn : ℕ → Turn → Turn
+countedTurn k r = record {
+  state = r .state;
+  gave = r .gave;
+  memory = r .memory;
+  tables = r .tables;
+  references = k + r .references;
+}
 
 -- ---- interrupts
 
@@ -117,18 +138,21 @@ finished c m t places d =
 -- all accesses were tested: read, complete, store; i is the indirect word
 unfoldable pub operandsTested : Core → List ℕ → User → ℕ → Tested → Part
 operandsTested c m u i r =
-    cond (passes (r .fault))
+    counted (r .made)
+    (cond (passes (r .fault))
     (finished c m (r .tables) (r .places) (complete u (c .file) i (wordsAt m (r .tables) (r .places))))
-    (failed (nextCore c) (r .fault) m (r .tables))
+    (failed (nextCore c) (r .fault) m (r .tables)))
 
 unfoldable pub operands : Core → List ℕ → List ℕ → User → ℕ → Part
 operands c m t u i = operandsTested c m u i (testAll t (length m) (rightsOf c) (request u (c .file) i))
 
--- the access for the indirect word was tested; without one the indirect word is 0, and nothing looks at it
+-- The access for the indirect word was tested; without one the indirect word is 0, and nothing looks at it. Document
+-- 02, card 7: "Finding an effective address shall also tell how many words it read (0 or 1)".
 unfoldable pub indirectTested : Core → List ℕ → User → Tested → Part
 indirectTested c m u r =
-    cond (passes (r .fault)) (operands c m (r .tables) u (getD (wordsAt m (r .tables) (r .places)) 0 0))
-    (failed (nextCore c) (r .fault) m (r .tables))
+    counted (r .made)
+    (cond (passes (r .fault)) (operands c m (r .tables) u (getD (wordsAt m (r .tables) (r .places)) 0 0))
+    (failed (nextCore c) (r .fault) m (r .tables)))
 
 unfoldable pub userStage : Core → List ℕ → List ℕ → User → Part
 userStage c m t u = indirectTested c m u (testAll t (length m) (rightsOf c) (indirectRequest u (c .file)))
@@ -140,17 +164,19 @@ userStage c m t u = indirectTested c m u (testAll t (length m) (rightsOf c) (ind
 abbrev pub physicalAddress : File → ℕ
 physicalAddress f = reg f A * wordRange + reg f D
 
--- the word is there, since p is below the memory's size
+-- the word is there, since p is below the memory's size; ruling 7.2: one reference, also past the memory
 unfoldable pub examined : Core → List ℕ → List ℕ → Part
 examined c m t =
     let p = physicalAddress (c .file) in
-    cond (ltb p (length m)) (part (withFile c (withReg (c .file) T (getD m p 0))) 0 Nothing m t)
-    (failed c OutOfRange m t)
+    counted 1
+    (cond (ltb p (length m)) (part (withFile c (withReg (c .file) T (getD m p 0))) 0 Nothing m t)
+    (failed c OutOfRange m t))
 
 unfoldable pub deposited : Core → List ℕ → List ℕ → Part
 deposited c m t =
     let p = physicalAddress (c .file) in
-    cond (ltb p (length m)) (part c 0 Nothing (set m p (reg (c .file) T)) t) (failed c OutOfRange m t)
+    counted 1
+    (cond (ltb p (length m)) (part c 0 Nothing (set m p (reg (c .file) T)) t) (failed c OutOfRange m t))
 
 -- LDATX to STDTX (document 02, card 4), of the displacement d: x is the place of the word, y that of the next where the
 -- instruction has two. Ruling R4: both are tested before a load or a store takes effect.
@@ -161,12 +187,14 @@ transferStage c m t o d =
     let x = firstPlace form (length m) o (transferAddress f d) in
     let y = secondPlace form (length m) o (transferAddress f d) in
     let r = storeAll m t (x ∷ y ∷ []) (wordsOf (transferStores o f)) in
-    cond (passes (firstFault x y))
+    counted (transferMade o x)
+    (cond (passes (firstFault x y))
     (part (withFile c (transferred o f (wordAt m t x) (wordAt m t y))) 0 Nothing (r .memory) (r .tables))
-    (failed c (firstFault x y) m t)
+    (failed c (firstFault x y) m t))
 
 -- Document 02, card 1: "IOX, IOXT and IDENT reach them and interrupt 7 stays for all other addresses and for an IDENT
--- that no device answers." Ruling 31: with 7 nothing changes but P, IID and PID.
+-- that no device answers." Ruling 31: with 7 nothing changes but P, IID and PID. Ruling 7.3: device registers are no
+-- references.
 unfoldable pub deviceStage : Core → List ℕ → List ℕ → DeviceRegister → Part
 deviceStage c m t r = cond (answers r) (part (exchanged c r) 0 Nothing m t) (trapped interruptIox c m t)
 
@@ -235,7 +263,9 @@ afterFetch c ring OutOfRange = c
 
 unfoldable pub fetched : ℕ → Core → List ℕ → List ℕ → ℕ → Translation → Part
 fetched l c m t ring x =
-    cond (passes x) (instructionStage l (afterFetch c ring x) m t (instructionOf c (wordAt m t x))) (failed c x m t)
+    counted 1
+    (cond (passes x) (instructionStage l (afterFetch c ring x) m t (instructionOf c (wordAt m t x)))
+    (failed c x m t))
 
 -- ruling 24: every fetch goes by the normal table, and all accesses of a step by the PTM that it began with
 abbrev pub fetchOf : Core → Access
@@ -317,12 +347,14 @@ blockFailed s x m t = turn (withCore s (faulted x (coreOf s))) (faultOf x) m t
 unfoldable pub blockStored : State → ℕ → List ℕ → Tested → Turn
 blockStored s l m r =
     let k = storeAll m (r .tables) (r .places) (blockWords s l blockOrder) in
-    cond (passes (r .fault)) (turn s 0 (k .memory) (k .tables)) (blockFailed s (r .fault) m (r .tables))
+    countedTurn (r .made)
+    (cond (passes (r .fault)) (turn s 0 (k .memory) (k .tables)) (blockFailed s (r .fault) m (r .tables)))
 
 unfoldable pub blockLoaded : State → ℕ → List ℕ → Tested → Turn
 blockLoaded s l m r =
-    cond (passes (r .fault)) (turn (putBlock s l blockOrder (wordsAt m (r .tables) (r .places))) 0 m (r .tables))
-    (blockFailed s (r .fault) m (r .tables))
+    countedTurn (r .made)
+    (cond (passes (r .fault)) (turn (putBlock s l blockOrder (wordsAt m (r .tables) (r .places))) 0 m (r .tables))
+    (blockFailed s (r .fault) m (r .tables)))
 
 abbrev pub blockTested : AccessKind → State → List ℕ → List ℕ → Tested
 blockTested k s m t = testAll t (length m) (rightsOf (coreOf s)) (blockRequest k s)
@@ -341,7 +373,9 @@ farStage s n m t (LoadBlock l) = blockLoaded s l m (blockTested Read s m t)
 
 -- the running level's words are put back, then what is left is done
 unfoldable pub settled : State → Part → Turn
-settled s r = farStage (withCore s (r .near .core)) (r .near .gave) (r .memory) (r .tables) (r .near .far)
+settled s r =
+    countedTurn (r .near .references)
+    (farStage (withCore s (r .near .core)) (r .near .gave) (r .memory) (r .tables) (r .near .far))
 
 -- ---- one step
 
@@ -363,6 +397,7 @@ abbrev pub isStopped : State → Bool
 isStopped s = eqb (s .control .stopped) 1
 
 -- "1. Stopped: nothing happens."; a change of level, and "That is the whole step."; "3. Otherwise fetch and execute."
+-- Ruling 7.2: the first two make no reference.
 unfoldable pub step : State → List ℕ → List ℕ → Turn
 step s m t =
     cond (isStopped s) (turn s 0 m t)

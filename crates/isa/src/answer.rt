@@ -16,12 +16,13 @@ pub enum Far {
     LoadBlock(u16),
 }
 
-// What a step leaves of the running level: its words, the number of the interrupt that it gave, or 0, and what is left
-// to be done.
+// What a step leaves of the running level: its words, the number of the interrupt that it gave, or 0, what is left to
+// be done, and the references made.
 pub struct Near {
     pub core: Core,
     pub gave: u16,
     pub far: Far,
+    pub references: u32,
 }
 
 // Why a run ended.
@@ -56,15 +57,15 @@ pub enum Refusal {
     Precision,
 }
 
-// What is answered beside state, memory and tables: by a step, its interrupt's number or 0; by a run, steps taken and
-// reason.
+// What is answered beside state, memory and tables: by a step, its interrupt's number or 0; by a run, steps taken,
+// reason and memory references.
 pub enum StepAnswer {
     Stepped(u16),
     Refused(Refusal),
 }
 
 pub enum RunAnswer {
-    Ran(u64, Reason),
+    Ran(u64, Reason, u64),
     Refused(Refusal),
 }
 

@@ -1,7 +1,7 @@
 // Answers as numbers, and the rest that they tell.
 ghost use mathlib.Core.Path.{_≡_};
 ghost use Rattle.isa.specs.Answers.{refusalNumber, answerNumber, stepNumber, interruptGiven, runNumber};
-ghost use Rattle.isa.specs.Answers.{stepsTaken, reasonNumber, sentNumber, characterSentOf};
+ghost use Rattle.isa.specs.Answers.{stepsTaken, referencesMade, reasonNumber, sentNumber, characterSentOf};
 use crate::answer::Answer;
 use crate::answer::Reason;
 use crate::answer::Refusal;
@@ -65,7 +65,7 @@ pub fn run_number(a: RunAnswer) -> u16
     ensures { λ n. ⌜ n ≡ runNumber a ⌝ }
 {
     match a {
-        RunAnswer::Ran(_, _) => 0,
+        RunAnswer::Ran(_, _, _) => 0,
         RunAnswer::Refused(r) => refusal_number(r),
     }
 }
@@ -74,7 +74,17 @@ pub fn steps_taken(a: RunAnswer) -> u64
     ensures { λ n. ⌜ n ≡ stepsTaken a ⌝ }
 {
     match a {
-        RunAnswer::Ran(k, _) => k,
+        RunAnswer::Ran(k, _, _) => k,
+        RunAnswer::Refused(_) => 0,
+    }
+}
+
+// The memory references of a run: the sum's low 64 bits.
+pub fn references_made(a: RunAnswer) -> u64
+    ensures { λ n. ⌜ n ≡ referencesMade a ⌝ }
+{
+    match a {
+        RunAnswer::Ran(_, _, g) => g,
         RunAnswer::Refused(_) => 0,
     }
 }
