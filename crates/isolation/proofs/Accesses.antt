@@ -126,7 +126,7 @@ module _ (form : Bool) (t₀ : List ℕ) (a b ρ : ℕ) where
     where
       go : (y : Bool) → HeldTests (testAll (marked t words r x) words r xs)
           → HeldTests (cond y (alsoAt (translate t words r x) (testAll (marked t words r x) words r xs))
-          (record { tables = t; places = []; fault = translate t words r x }))
+          (record { tables = t; places = []; fault = translate t words r x; made = 1 }))
       go true h = record { places = also (translate-allowed t words r low hm hr x) (h .places); marks = h .marks }
       go false h = record { places = none; marks = hm }
 

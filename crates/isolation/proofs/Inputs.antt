@@ -1,24 +1,26 @@
 -- A run with device input, from two memories.
 -- Assumes nothing.
 use Prim.Native.Nat.{ℕ, _-_, _≤_}
-use mathlib.Core.Path.{_≡_, refl, _∙_}
+use mathlib.Core.Path.{_≡_, refl, subst, _∙_}
 use mathlib.Core.Bool.{Bool, true, false, cond}
 use mathlib.Core.List.{List, [], _∷_}
 use lib.Dec.{ltb}
 use Rattle.isa.specs.Machine.{withBit, controlOf, coreOf, withControlWords}
 use Rattle.isa.specs.System.{withPid}
 use Rattle.isa.specs.InputOutput.{ticked, typed, readOut}
-use Rattle.isa.specs.Run.{Run, ended, runFrom}
+use Rattle.isa.specs.Run.{Run, countedRun, runFrom}
 use Rattle.isa.specs.Answers.{deviceLevel, raiseCallBy, isUnread, typeCallBy, waits}
-use Rattle.isa.specs.DeviceInput.{Given, InputRun, inputCall, alone, telling, isSpent, handed, inputRunFrom}
+use Rattle.isa.specs.DeviceInput.{Given, InputRun, inputCall, alone, telling, isSpent, countedInputRun}
+use Rattle.isa.specs.DeviceInput.{handed, inputRunFrom}
 use Rattle.isa.specs.declared.machine.Control.{Control}
 use Rattle.isa.specs.declared.machine.State.{State}
 use Rattle.isa.specs.declared.device.DeviceInput.{DeviceInput}
 use Rattle.isa.specs.declared.device.DeviceInput.the-variants.{Raise, Tick, Typed, ReadOut}
+use Rattle.isa.specs.declared.answer.Reason.{Reason}
 use Rattle.isa.specs.declared.answer.Refusal.the-variants.{RaiseLevel, Unread}
 use Rattle.isa.specs.declared.answer.Answer.the-variants.{Done, Refused}
 use Rattle.isolation.proofs.Accesses.{Held}
-use Rattle.isolation.proofs.Runs.{EvenRun, EvenRest, ended-even, later, run-even}
+use Rattle.isolation.proofs.Runs.{EvenRun, EvenRest, counted-run, later, run-even}
 
 module _ (form : Bool) (t₀ : List ℕ) (a b ρ : ℕ) where
   -- other control words with the same switches for paging and extended mode confine the level as before
@@ -63,36 +65,37 @@ module _ (form : Bool) (t₀ : List ℕ) (a b ρ : ℕ) where
       → (i : DeviceInput) (m n : List ℕ) (r q : Run) → EvenRun form t₀ a b ρ m n r q
       → EvenInputRun m n (handed f i r) (handed f i q)
   handed-even f hf i m n r q e =
-      rw (← e .reason, ← e .state, ← e .steps, ← e .tables) (go (isSpent (r .reason)))
+      subst (λ (w : Reason). EvenInputRun m n (handed f i r) (right (isSpent w))) (e .reason) (go (isSpent (r .reason)))
     where
-      s : State
-      s = inputCall i (r .state) .state
-
+      -- what follows the input in each run
       on : InputRun
-      on = f (r .steps) s (r .memory) (r .tables)
+      on = f (r .steps) (inputCall i (r .state) .state) (r .memory) (r .tables)
 
       other : InputRun
-      other = f (r .steps) s (q .memory) (r .tables)
+      other = f (q .steps) (inputCall i (q .state) .state) (q .memory) (q .tables)
 
       rest : EvenInputRun (r .memory) (q .memory) on other
       rest =
-          hf (r .steps) s (r .memory) (q .memory) (r .tables) (input-held i (r .state) (e .held)) (e .memories .agree)
-          (e .marks)
+          rw (← e .state, ← e .steps, ← e .tables)
+          (hf (r .steps) (inputCall i (r .state) .state) (r .memory) (q .memory) (r .tables)
+          (input-held i (r .state) (e .held)) (e .memories .agree) (e .marks))
 
-      go : (x : Bool)
-          → EvenInputRun m n (cond x (telling (inputCall i (r .state) .told) on) (alone r))
-          (cond x (telling (inputCall i (r .state) .told) other)
-          (alone (ended (r .reason) (r .steps) (r .state) (q .memory) (r .tables))))
+      -- each run, by whether it is spent
+      left : Bool → InputRun
+      left x = cond x (telling (inputCall i (r .state) .told) (countedInputRun (r .references) on)) (alone r)
+
+      right : Bool → InputRun
+      right x = cond x (telling (inputCall i (q .state) .told) (countedInputRun (q .references) other)) (alone q)
+
+      go : (x : Bool) → EvenInputRun m n (left x) (right x)
       go true = record {
-        run = later form t₀ a b ρ m n (r .memory) (q .memory) (on .run) (other .run) (e .memories) (rest .run);
-        told = rw (rest .told);
-      }
-      go false = record {
         run =
-            ended-even form t₀ a b ρ (r .reason) (r .steps) (r .state) m n (r .memory) (q .memory) (r .tables)
-            (e .memories) (e .marks) (e .held);
-        told = refl;
+            later form t₀ a b ρ m n (r .memory) (q .memory) (countedRun (r .references) (on .run))
+            (countedRun (q .references) (other .run)) (e .memories)
+            (counted-run form t₀ a b ρ (e .references) (rest .run));
+        told = rw (rest .told, e .state);
       }
+      go false = record { run = e; told = refl }
 
   pub input-run-even : ρ ≤ 1 → (c : ℕ) (gs : List Given) → EvenRest form t₀ a b ρ EvenInputRun (inputRunFrom c gs)
   input-run-even low c [] k s m n t hs h hm =

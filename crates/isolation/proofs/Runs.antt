@@ -10,8 +10,8 @@ use lib.ListN.{length}
 use lib.Seq.{getD-set-same, set-out}
 use lib.Dec.{eqb}
 use Rattle.isa.specs.Machine.{coreOf, withCore}
-use Rattle.isa.specs.Step.{Part, Turn, farStage, settled, step, stepIn, changeDue, isStopped}
-use Rattle.isa.specs.Run.{Run, ended, afterStep, runFrom}
+use Rattle.isa.specs.Step.{Part, Turn, turn, countedTurn, farStage, settled, step, stepIn, changeDue, isStopped}
+use Rattle.isa.specs.Run.{Run, ended, countedRun, afterStep, runFrom}
 use Rattle.isa.specs.declared.machine.State.{State}
 use Rattle.isa.specs.declared.machine.Core.{Core}
 use Rattle.isa.specs.declared.answer.Far.{Far}
@@ -54,6 +54,7 @@ module _ (form : Bool) (t₀ : List ℕ) (a b ρ : ℕ) where
   record EvenTurn (m n : List ℕ) (r q : Turn) : Type 0 where
     state : r .state ≡ q .state
     gave : r .gave ≡ q .gave
+    references : r .references ≡ q .references
     tables : r .tables ≡ q .tables
     memories : EvenMemories form t₀ a b ρ m n (r .memory) (q .memory)
     marks : Marked form (r .tables) t₀
@@ -65,10 +66,11 @@ module _ (form : Bool) (t₀ : List ℕ) (a b ρ : ℕ) where
       → Held form t₀ a b ρ (coreOf s) → EvenTurn m n (farStage s g m′ t far) (farStage s g n′ t far)
   unfolding farStage
   far-even s g m n m′ n′ t Nothing hf h hm hs =
-      record { state = refl; gave = refl; tables = refl; memories = h; marks = hm; held = hs }
+      record { state = refl; gave = refl; references = refl; tables = refl; memories = h; marks = hm; held = hs }
   far-even s g m n m′ n′ t (Call w) hf h hm hs = record {
     state = refl;
     gave = refl;
+    references = refl;
     tables = refl;
     memories = h;
     marks = hm;
@@ -87,13 +89,27 @@ module _ (form : Bool) (t₀ : List ℕ) (a b ρ : ℕ) where
   far-even s g m n m′ n′ t (StoreBlock x) hf h hm hs = absurd hf
   far-even s g m n m′ n′ t (LoadBlock x) hf h hm hs = absurd hf
 
+  -- as many references more in both
+  counted-turn : {m n : List ℕ} {r q : Turn} (k : ℕ) → EvenTurn m n r q
+      → EvenTurn m n (countedTurn k r) (countedTurn k q)
+  counted-turn k e = record {
+    state = e .state;
+    gave = e .gave;
+    references = rw (e .references);
+    tables = e .tables;
+    memories = e .memories;
+    marks = e .marks;
+    held = e .held;
+  }
+
   settled-even : (s : State) (m n : List ℕ) (r q : Part) → Held form t₀ a b ρ (coreOf s) → Even form t₀ a b ρ m n r q
       → EvenTurn m n (settled s r) (settled s q)
   unfolding settled
   settled-even s m n r q hs e =
       rw (← e .near, ← e .tables)
+      (counted-turn (r .near .references)
       (far-even (withCore s (r .near .core)) (r .near .gave) m n (r .memory) (q .memory) (r .tables) (r .near .far)
-      (e .local) (e .memories) (e .marks) (put-held s (r .near .core) hs (e .held)))
+      (e .local) (e .memories) (e .marks) (put-held s (r .near .core) hs (e .held))))
 
   -- a run stops where a change of level is due, so a step that it makes is one of the level, or of a stopped machine
   step-even : ρ ≤ 1 → (s : State) (m n t : List ℕ) → changeDue s ≡ false → Held form t₀ a b ρ (coreOf s)
@@ -107,14 +123,13 @@ module _ (form : Bool) (t₀ : List ℕ) (a b ρ : ℕ) where
     where
       go : (x : Bool) → EvenTurn m n (settled s (stepIn (s .level) (coreOf s) m t))
           (settled s (stepIn (s .level) (coreOf s) n t))
-          → EvenTurn m n (cond x (record { state = s; gave = 0; memory = m; tables = t })
-          (settled s (stepIn (s .level) (coreOf s) m t)))
-          (cond x (record { state = s; gave = 0; memory = n; tables = t })
-          (settled s (stepIn (s .level) (coreOf s) n t)))
+          → EvenTurn m n (cond x (turn s 0 m t) (settled s (stepIn (s .level) (coreOf s) m t)))
+          (cond x (turn s 0 n t) (settled s (stepIn (s .level) (coreOf s) n t)))
       go true e =
           record {
             state = refl;
             gave = refl;
+            references = refl;
             tables = refl;
             memories = even-refl form t₀ a b ρ m n h;
             marks = hm;
@@ -127,6 +142,7 @@ module _ (form : Bool) (t₀ : List ℕ) (a b ρ : ℕ) where
     pub state : r .state ≡ q .state
     pub steps : r .steps ≡ q .steps
     pub reason : r .reason ≡ q .reason
+    pub references : r .references ≡ q .references
     pub tables : r .tables ≡ q .tables
     pub memories : EvenMemories form t₀ a b ρ m n (r .memory) (q .memory)
     pub marks : Marked form (r .tables) t₀
@@ -139,11 +155,20 @@ module _ (form : Bool) (t₀ : List ℕ) (a b ρ : ℕ) where
       (k : ℕ) (s : State) (m n t : List ℕ) → Held form t₀ a b ρ (coreOf s) → Agree form t₀ a b ρ m n → Marked form t t₀
       → Left m n (f k s m t) (f k s n t)
 
-  pub ended-even : (w : Reason) (k : ℕ) (s : State) (m n m′ n′ t : List ℕ) → EvenMemories form t₀ a b ρ m n m′ n′
+  ended-even : (w : Reason) (k : ℕ) (s : State) (m n m′ n′ t : List ℕ) → EvenMemories form t₀ a b ρ m n m′ n′
       → Marked form t t₀
       → Held form t₀ a b ρ (coreOf s) → EvenRun m n (ended w k s m′ t) (ended w k s n′ t)
   ended-even w k s m n m′ n′ t h hm hs =
-      record { state = refl; steps = refl; reason = refl; tables = refl; memories = h; marks = hm; held = hs }
+      record {
+        state = refl;
+        steps = refl;
+        reason = refl;
+        references = refl;
+        tables = refl;
+        memories = h;
+        marks = hm;
+        held = hs;
+      }
 
   pub later : (m n m′ n′ : List ℕ) (r q : Run) → EvenMemories form t₀ a b ρ m n m′ n′ → EvenRun m′ n′ r q
       → EvenRun m n r q
@@ -151,8 +176,23 @@ module _ (form : Bool) (t₀ : List ℕ) (a b ρ : ℕ) where
     state = e .state;
     steps = e .steps;
     reason = e .reason;
+    references = e .references;
     tables = e .tables;
     memories = even-trans form t₀ a b ρ m n m′ n′ (r .memory) (q .memory) h (e .memories);
+    marks = e .marks;
+    held = e .held;
+  }
+
+  -- references before both, as many before one as before the other
+  pub counted-run : {m n : List ℕ} {r q : Run} {g h : ℕ} → g ≡ h → EvenRun m n r q
+      → EvenRun m n (countedRun g r) (countedRun h q)
+  counted-run p e = record {
+    state = e .state;
+    steps = e .steps;
+    reason = e .reason;
+    references = rw (p, e .references);
+    tables = e .tables;
+    memories = e .memories;
     marks = e .marks;
     held = e .held;
   }
@@ -160,7 +200,8 @@ module _ (form : Bool) (t₀ : List ℕ) (a b ρ : ℕ) where
   after-even : (f : ℕ → State → List ℕ → List ℕ → Run) → EvenRest EvenRun f → (k : ℕ) (m n : List ℕ) (r q : Turn)
       → EvenTurn m n r q
       → EvenRun m n (afterStep true f k r) (afterStep true f k q)
-  after-even f hf k m n r q e = rw (← e .state, ← e .gave, ← e .tables) (go (not (eqb (r .gave) 0)))
+  after-even f hf k m n r q e =
+      rw (← e .state, ← e .gave, ← e .tables) (counted-run (e .references) (go (not (eqb (r .gave) 0))))
     where
       go : (x : Bool)
           → EvenRun m n (cond x (ended Interrupt (suc k) (r .state) (r .memory) (r .tables))

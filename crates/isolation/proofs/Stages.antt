@@ -13,7 +13,7 @@ use Rattle.isa.specs.Flags.{bitsOf}
 use Rattle.isa.specs.Instructions.{Completed, complete, request, indirectRequest}
 use Rattle.isa.specs.Pages.{entryAt, slotOf, Tested, testAll, translate, marked, faultOf, passes, wordAt, wordsAt}
 use Rattle.isa.specs.Pages.{rightsOf, lowered, loweredPcr}
-use Rattle.isa.specs.Step.{Part, part, interrupted, gives, withPgs, faulted, failed, trapped, finishedCore}
+use Rattle.isa.specs.Step.{Part, part, counted, interrupted, gives, withPgs, faulted, failed, trapped, finishedCore}
 use Rattle.isa.specs.Step.{finished, operandsTested, operands, indirectTested, userStage, privileged}
 use Rattle.isa.specs.Step.{instructionStage, instructionOf, afterFetch, fetched, fetchOf, stepIn}
 use Rattle.isa.specs.declared.machine.Control.{Control}
@@ -150,6 +150,17 @@ module _ (form : Bool) (t₀ : List ℕ) (a b ρ : ℕ) where
       go true = gives-held 5 (withFile c (d .file)) (file-held c (d .file) h)
       go false = file-held c (d .file) h
 
+  -- as many references more in both
+  counted-even : {m n : List ℕ} {r q : Part} (k : ℕ) → Even m n r q → Even m n (counted k r) (counted k q)
+  counted-even k e = record {
+    near = rw (e .near);
+    tables = e .tables;
+    memories = e .memories;
+    marks = e .marks;
+    held = e .held;
+    local = e .local;
+  }
+
   -- from two memories that agree
   module _ (m n : List ℕ) (h : Agree form t₀ a b ρ m n) where
     -- a stage that stores nothing
@@ -192,7 +203,8 @@ module _ (form : Bool) (t₀ : List ℕ) (a b ρ : ℕ) where
           → Even m n (operandsTested c m u i r) (operandsTested c n u i r)
       unfolding operandsTested
       tested-even u i r hr =
-          rw (← words-same form t₀ a b ρ m n (r .tables) (r .places) (hr .places) h) (go (passes (r .fault)))
+          rw (← words-same form t₀ a b ρ m n (r .tables) (r .places) (hr .places) h)
+          (counted-even (r .made) (go (passes (r .fault))))
         where
           d : Completed
           d = complete u (c .file) i (wordsAt m (r .tables) (r .places))
@@ -216,7 +228,8 @@ module _ (form : Bool) (t₀ : List ℕ) (a b ρ : ℕ) where
             → Even m n (indirectTested c m u r) (indirectTested c n u r)
         unfolding indirectTested
         indirect-even u r hr =
-            rw (← words-same form t₀ a b ρ m n (r .tables) (r .places) (hr .places) h) (go (passes (r .fault)))
+            rw (← words-same form t₀ a b ρ m n (r .tables) (r .places) (hr .places) h)
+            (counted-even (r .made) (go (passes (r .fault))))
           where
             i : ℕ
             i = getD (wordsAt m (r .tables) (r .places)) 0 0
@@ -253,7 +266,7 @@ module _ (form : Bool) (t₀ : List ℕ) (a b ρ : ℕ) where
       fetched-even : (t : List ℕ) (ring : ℕ) (x : Translation) → Marked form t t₀ → Allowed form t₀ a b ρ x
           → Even m n (fetched l c m t ring x) (fetched l c n t ring x)
       unfolding fetched
-      fetched-even t ring x hm hx = rw (← word-same form t₀ a b ρ m n t x hx h) (go (passes x))
+      fetched-even t ring x hm hx = rw (← word-same form t₀ a b ρ m n t x hx h) (counted-even 1 (go (passes x)))
         where
           i : Instruction
           i = instructionOf c (wordAt m t x)

@@ -99,7 +99,7 @@ module _ (s : State) (t : List ℕ) where
       let w = u .memories in
       let d = differ-same m n m′ n′ h w in
       record {
-        answer = rw (u .steps, u .reason);
+        answer = rw (u .steps, u .reason, u .references);
         told = e .told;
         state = u .state;
         tables = u .tables;

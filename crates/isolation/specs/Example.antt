@@ -17,7 +17,7 @@ use Rattle.isa.specs.Pages.{withinMemory, judged, inWindow, translate, marked, 
 use Rattle.isa.specs.Step.{step, interrupted, faulted, finished, operandsTested, operands, indirectTested, userStage}
 use Rattle.isa.specs.Step.{examined, deposited, instructionStage, fetched, stepIn, putOther, blockStored, blockLoaded}
 use Rattle.isa.specs.Step.{farStage, settled, changeDue, levelChanged}
-use Rattle.isa.specs.Answers.{RunCall, runCall, stateAnswer, stepsTaken, runValues}
+use Rattle.isa.specs.Answers.{RunCall, runCall, stateAnswer, stepsTaken, referencesMade, runValues}
 use Rattle.isa.specs.DeviceInput.{Given, InputRunCall, inputRunCall}
 use Rattle.isa.specs.Isolation.{inEither, reachable, writable}
 use Rattle.isa.specs.Cases.{quiet, given, stated}
@@ -73,11 +73,12 @@ pairStart form k p =
     (replicate 8 0 ++ (0 ∷ 0 ∷ p ∷ 0o002000 ∷ 0 ∷ 0 ∷ 0 ∷ 0o004000 ∷ replicate 112 0))
     (0 ∷ 0o201 ∷ replicate 14 0)
 
--- What is looked at after a run: steps taken, A, P and STS of level 1, IID, PGS, the message, and the two foreign
--- words.
+-- What is looked at after a run: steps taken, references made, A, P and STS of level 1, IID, PGS, the message, and the
+-- two foreign words.
 abbrev pub seen : RunCall → List ℕ
 seen r =
     stepsTaken (r .answer)
+    ∷ referencesMade (r .answer)
     ∷ getD (r .state .regs) 13 0
     ∷ getD (r .state .regs) 10 0
     ∷ getD (r .state .regs) 8 0
@@ -94,17 +95,19 @@ run form p m = runCall true 100 (pairStart form (quiet 1) p) m (tables form)
 
 -- By the alternate table an entry without permits gives interrupt 3 (IID 000010), PGS 040000 + table 1, page 2; by the
 -- normal table ring 3 gives interrupt 2 (IID 000004), PGS table 0, page 2. The message is 000010 in every run; the
--- foreign words are as they were. PGS names the slot, in either mode.
+-- foreign words are as they were. PGS names the slot, in either mode. References (document 02, card 7; rulings 7.1 and
+-- 7.2): each step has its fetch; LDA and STA, none of them indirect, have one operand beside it, the last one's failing
+-- access too. So BSET, LDA, AAA, STA and the last make 1 + 2 + 1 + 2 + 2, and the second BSET 1 more.
 unfoldable pub pair : Bool → List (List ℕ × List ℕ)
 pair form =
-    (seen (run form 0o00 left), 5 ∷ 8 ∷ 5 ∷ 1 ∷ 8 ∷ 0o040102 ∷ 8 ∷ 0o111111 ∷ 1 ∷ [])
-    ∷ (seen (run form 0o00 right), 5 ∷ 8 ∷ 5 ∷ 1 ∷ 8 ∷ 0o040102 ∷ 8 ∷ 0o022222 ∷ 2 ∷ [])
-    ∷ (seen (run form 0o10 left), 5 ∷ 8 ∷ 13 ∷ 1 ∷ 8 ∷ 0o040102 ∷ 8 ∷ 0o111111 ∷ 1 ∷ [])
-    ∷ (seen (run form 0o10 right), 5 ∷ 8 ∷ 13 ∷ 1 ∷ 8 ∷ 0o040102 ∷ 8 ∷ 0o022222 ∷ 2 ∷ [])
-    ∷ (seen (run form 0o20 left), 6 ∷ 8 ∷ 22 ∷ 0 ∷ 4 ∷ 0o000002 ∷ 8 ∷ 0o111111 ∷ 1 ∷ [])
-    ∷ (seen (run form 0o20 right), 6 ∷ 8 ∷ 22 ∷ 0 ∷ 4 ∷ 0o000002 ∷ 8 ∷ 0o022222 ∷ 2 ∷ [])
-    ∷ (seen (run form 0o30 left), 6 ∷ 8 ∷ 30 ∷ 0 ∷ 4 ∷ 0o000002 ∷ 8 ∷ 0o111111 ∷ 1 ∷ [])
-    ∷ (seen (run form 0o30 right), 6 ∷ 8 ∷ 30 ∷ 0 ∷ 4 ∷ 0o000002 ∷ 8 ∷ 0o022222 ∷ 2 ∷ [])
+    (seen (run form 0o00 left), 5 ∷ 8 ∷ 8 ∷ 5 ∷ 1 ∷ 8 ∷ 0o040102 ∷ 8 ∷ 0o111111 ∷ 1 ∷ [])
+    ∷ (seen (run form 0o00 right), 5 ∷ 8 ∷ 8 ∷ 5 ∷ 1 ∷ 8 ∷ 0o040102 ∷ 8 ∷ 0o022222 ∷ 2 ∷ [])
+    ∷ (seen (run form 0o10 left), 5 ∷ 8 ∷ 8 ∷ 13 ∷ 1 ∷ 8 ∷ 0o040102 ∷ 8 ∷ 0o111111 ∷ 1 ∷ [])
+    ∷ (seen (run form 0o10 right), 5 ∷ 8 ∷ 8 ∷ 13 ∷ 1 ∷ 8 ∷ 0o040102 ∷ 8 ∷ 0o022222 ∷ 2 ∷ [])
+    ∷ (seen (run form 0o20 left), 6 ∷ 9 ∷ 8 ∷ 22 ∷ 0 ∷ 4 ∷ 0o000002 ∷ 8 ∷ 0o111111 ∷ 1 ∷ [])
+    ∷ (seen (run form 0o20 right), 6 ∷ 9 ∷ 8 ∷ 22 ∷ 0 ∷ 4 ∷ 0o000002 ∷ 8 ∷ 0o022222 ∷ 2 ∷ [])
+    ∷ (seen (run form 0o30 left), 6 ∷ 9 ∷ 8 ∷ 30 ∷ 0 ∷ 4 ∷ 0o000002 ∷ 8 ∷ 0o111111 ∷ 1 ∷ [])
+    ∷ (seen (run form 0o30 right), 6 ∷ 9 ∷ 8 ∷ 30 ∷ 0 ∷ 4 ∷ 0o000002 ∷ 8 ∷ 0o022222 ∷ 2 ∷ [])
     ∷ []
 
 -- ---- with device input
@@ -131,8 +134,8 @@ deviceInput =
 abbrev pub runWithInput : Bool → ℕ → List ℕ → InputRunCall
 runWithInput form interrupts m = inputRunCall 100 deviceInput (pairStart form (inUse interrupts) 0) m (tables form)
 
--- What is looked at: steps and reason; what the inputs were told; PID; the devices' words; the message and the two
--- foreign words.
+-- What is looked at: steps, reason and references; what the inputs were told; PID; the devices' words; the message and
+-- the two foreign words.
 abbrev pub seenWithInput : InputRunCall → List (List ℕ)
 seenWithInput r =
     runValues (r .answer)
@@ -144,20 +147,20 @@ seenWithInput r =
 
 -- Interrupts off: the tick and the first character ask (PID bits 13 and 12), the raise sets bit 11; the second
 -- character is refused (11) and so is level 14 (3); the second read out finds none (256). Interrupt 3 in step 5 ends
--- the run, so the last tick is not handed in.
+-- the run, so the last tick is not handed in. The references are those of program 000 above: an input makes none.
 abbrev pub endsInterrupted : List ℕ → List (List ℕ)
 endsInterrupted foreign =
-    (5 ∷ 3 ∷ [])
+    (5 ∷ 3 ∷ 8 ∷ [])
     ∷ (0o101 ∷ 0 ∷ 0 ∷ 11 ∷ 256 ∷ 3 ∷ 0 ∷ [])
     ∷ (0o034002 ∷ [])
     ∷ (1 ∷ 1 ∷ 1 ∷ 1 ∷ 1 ∷ 1 ∷ 0o102 ∷ 0 ∷ 0 ∷ 0 ∷ 0 ∷ 0o101 ∷ [])
     ∷ (8 ∷ foreign)
     ∷ []
 
--- Interrupts on: the tick makes level 13 due, and the run ends there, after one step.
+-- Interrupts on: the tick makes level 13 due, and the run ends there, after one step, which made its fetch alone.
 abbrev pub endsDue : List ℕ → List (List ℕ)
 endsDue foreign =
-    (1 ∷ 1 ∷ [])
+    (1 ∷ 1 ∷ 1 ∷ [])
     ∷ (0o101 ∷ 0 ∷ [])
     ∷ (0o020002 ∷ [])
     ∷ (1 ∷ 1 ∷ 1 ∷ 1 ∷ 0 ∷ 0 ∷ 0 ∷ 0 ∷ 0 ∷ 0 ∷ 0 ∷ 0o101 ∷ [])

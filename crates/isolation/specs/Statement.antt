@@ -1,5 +1,5 @@
--- Demand 3, document 01 "Two machines side by side", and document 02, card 1, on devices: what is claimed of run to the
--- first interrupt with device input from two starts.
+-- Demand 3, document 01 "Two machines side by side", and document 02, card 1, on devices, and card 7, on references:
+-- what is claimed of run to the first interrupt with device input from two starts.
 use Prim.Native.Nat.{ℕ, _/_, _≤_}
 use mathlib.Core.Path.{_≡_}
 use mathlib.Core.Bool.{true, false}
@@ -41,7 +41,8 @@ pub record Confined (s : State) (t m : List ℕ) (r : InputRunCall) : Type 0 whe
 
 -- What the two runs r, from m, and q, from n, leave.
 pub record Isolated (s : State) (t m n : List ℕ) (r q : InputRunCall) : Type 0 where
-  -- "steps and reason differ in nothing", nor does a refusal
+  -- "steps and reason differ in nothing", nor does a refusal; document 02, card 7: "run answers the sum (its low 64
+  -- bits), the same in demand 3's two runs", beside steps and reason
   pub answer : r .answer ≡ q .answer
   -- what each input was answered, the character read out included
   pub told : r .told ≡ q .told
@@ -61,7 +62,8 @@ pub record Isolated (s : State) (t m n : List ℕ) (r q : InputRunCall) : Type 0
   pub right : Confined s t n q
 
 -- "Two starts that are refused, with equally much memory and equal in all but memory's words, get the same refusal, and
--- each stays as it came": the calls r and q with the refusal x. No input was handed in.
+-- each stays as it came": the calls r and q with the refusal x. No input was handed in; ruling 7.4: "A refused run
+-- tells no sum."
 pub record RefusedAlike (s : State) (t m n : List ℕ) (x : Refusal) (r q : InputRunCall) : Type 0 where
   pub left : r ≡ record { answer = Refused x; told = []; state = s; memory = m; tables = t }
   pub right : q ≡ record { answer = Refused x; told = []; state = s; memory = n; tables = t }

@@ -11,7 +11,8 @@ use Rattle.isa.specs.Machine.{bit, flagOf, reg, nextCore, controlOf, coreOf}
 use Rattle.isa.specs.Machine.{interruptIox, sizesFit, inRange, withControlWords}
 use Rattle.isa.specs.InputOutput.{readyStatus, lineOf, flipFlop, withoutAsking, identified, readOut}
 use Rattle.isa.specs.InputOutput.{registerOf}
-use Rattle.isa.specs.Step.{Turn, part, trapped, identStage, deviceStage, farStage, settled, registerAt, step}
+use Rattle.isa.specs.Step.{Turn, part, countedTurn, trapped, identStage, deviceStage, farStage, settled, registerAt}
+use Rattle.isa.specs.Step.{step}
 use Rattle.isa.specs.Answers.{stateAnswer, waits, readOutCall}
 use Rattle.isa.specs.declared.machine.Control.{Control}
 use Rattle.isa.specs.declared.machine.Core.{Core}
@@ -121,11 +122,13 @@ module _ (n : ℕ) (s : State) (m t : List ℕ) (h : Executes (Ident n) s m t) w
 
   -- the step of one that is answered, and of one that is not
   answered-step : asks ≡ true
-      → step s m t ≡ settled s (part (identified fetchedNext (lineOf n)) 0 Nothing m (fetchedTables s m t))
+      → step s m t
+      ≡ countedTurn 1 (settled s (part (identified fetchedNext (lineOf n)) 0 Nothing m (fetchedTables s m t)))
   unfolding identStage
   answered-step e = executed-step h ∙ rw (same-asks ∙ e)
 
-  trapped-step : asks ≡ false → step s m t ≡ settled s (trapped interruptIox fetchedNext m (fetchedTables s m t))
+  trapped-step : asks ≡ false
+      → step s m t ≡ countedTurn 1 (settled s (trapped interruptIox fetchedNext m (fetchedTables s m t)))
   unfolding identStage
   trapped-step e = executed-step h ∙ rw (same-asks ∙ e)
 

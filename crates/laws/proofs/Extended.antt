@@ -17,7 +17,8 @@ use Rattle.isa.specs.Machine.{controlOf, putFile}
 use Rattle.isa.specs.System.{withExtended}
 use Rattle.isa.specs.Pages.{inWindow, translate, faultOf}
 use Rattle.isa.specs.Physical.{physicalPlace}
-use Rattle.isa.specs.Step.{Turn, part, interrupted, withPgs, faulted, farStage, settled, isStopped, changeDue, step}
+use Rattle.isa.specs.Step.{Turn, part, countedTurn, interrupted, withPgs, faulted, farStage, settled, isStopped}
+use Rattle.isa.specs.Step.{changeDue, step}
 use Rattle.isa.specs.Run.{Run, afterStep, runFrom}
 use Rattle.isa.specs.Isolation.{startPcr}
 use Rattle.isa.specs.declared.machine.Control.{Control}
@@ -172,8 +173,8 @@ low-ring-run-keeps-devices s m t n on low =
 -- what the step of either leaves
 switch-leaves : (x : ℕ) (s : State) (m t : List ℕ) → s .level < levelCount
     → length (s .regs) ≡ registerWords
-    → SetsFlagAlone x s m t (settled s (part (withControl (nextCore (fetchedCore s m t))
-    (withExtended (fetchedCore s m t .control) x)) 0 Nothing m (fetchedTables s m t)))
+    → SetsFlagAlone x s m t (countedTurn 1 (settled s (part (withControl (nextCore (fetchedCore s m t))
+    (withExtended (fetchedCore s m t .control) x)) 0 Nothing m (fetchedTables s m t))))
 unfolding settled farStage
 switch-leaves x s m t l n = record {
   gave = refl;

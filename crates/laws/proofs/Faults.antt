@@ -72,26 +72,26 @@ module _ (K : List ℕ → Type 0) (flag : ℕ) (mark : Lasting (eqb flag 1) K) 
 
   -- ---- a stage
 
-  -- what a stage left: the file f, memory m, and of the tables what marks keep
-  record Left (f : File) (m : List ℕ) (r : Part) : Type 0 where
-    file : r .near .core .file ≡ f
-    memory : r .memory ≡ m
-    tables : K (r .tables)
+  -- what a stage left, the core c, memory n and tables t: the file f, memory m, and of the tables what marks keep
+  record Left (f : File) (m : List ℕ) (c : Core) (n t : List ℕ) : Type 0 where
+    file : c .file ≡ f
+    memory : n ≡ m
+    tables : K t
 
   -- what it leaves where it faults, or leaves a block, which may fault yet; whatever else is left to be done goes with
-  -- no fault
-  abbrev LeftBy : File → List ℕ → Part → Far → Type 0
-  LeftBy f m r Nothing = isFault (r .near .gave) ≡ true → Left f m r
-  LeftBy f m r (Call w) = isFault (r .near .gave) ≡ false
-  LeftBy f m r (ReadRegister l x) = isFault (r .near .gave) ≡ false
-  LeftBy f m r (WriteRegister l x) = isFault (r .near .gave) ≡ false
-  LeftBy f m r ReadPcr = isFault (r .near .gave) ≡ false
-  LeftBy f m r WritePcr = isFault (r .near .gave) ≡ false
-  LeftBy f m r (StoreBlock l) = Left f m r × SameForm (r .near .core)
-  LeftBy f m r (LoadBlock l) = Left f m r × SameForm (r .near .core)
+  -- no fault; g is the interrupt given
+  abbrev LeftBy : File → List ℕ → Core → ℕ → List ℕ → List ℕ → Far → Type 0
+  LeftBy f m c g n t Nothing = isFault g ≡ true → Left f m c n t
+  LeftBy f m c g n t (Call w) = isFault g ≡ false
+  LeftBy f m c g n t (ReadRegister l x) = isFault g ≡ false
+  LeftBy f m c g n t (WriteRegister l x) = isFault g ≡ false
+  LeftBy f m c g n t ReadPcr = isFault g ≡ false
+  LeftBy f m c g n t WritePcr = isFault g ≡ false
+  LeftBy f m c g n t (StoreBlock l) = Left f m c n t × SameForm c
+  LeftBy f m c g n t (LoadBlock l) = Left f m c n t × SameForm c
 
   abbrev Leaves : File → List ℕ → Part → Type 0
-  Leaves f m r = LeftBy f m r (r .near .far)
+  Leaves f m r = LeftBy f m (r .near .core) (r .near .gave) (r .memory) (r .tables) (r .near .far)
 
   module _ (m : List ℕ) where
     -- a fault by an access, and one that is not
@@ -232,15 +232,16 @@ module _ (K : List ℕ → Type 0) (flag : ℕ) (mark : Lasting (eqb flag 1) K) 
 
   -- ---- the running level put back, and what is left done
 
-  -- what a step left: all registers b, memory m, and of the tables what marks keep
-  record Kept (b m : List ℕ) (r : Turn) : Type 0 where
-    regs : r .state .regs ≡ b
-    memory : r .memory ≡ m
-    tables : K (r .tables)
+  -- what a step left, all registers a, memory n and tables t: all registers b, memory m, and of the tables what marks
+  -- keep
+  record Kept (b m a n t : List ℕ) : Type 0 where
+    regs : a ≡ b
+    memory : n ≡ m
+    tables : K t
 
   -- where it faults
   abbrev Keeps : List ℕ → List ℕ → Turn → Type 0
-  Keeps b m r = isFault (r .gave) ≡ true → Kept b m r
+  Keeps b m r = isFault (r .gave) ≡ true → Kept b m (r .state .regs) (r .memory) (r .tables)
 
   -- a block: an access failed, and the running level's words, taken out, are put back as they are; or there is no fault
   module _ (s : State) (m : List ℕ) (l : s .level < levelCount) (n : length (s .regs) ≡ registerWords) where
@@ -275,16 +276,20 @@ module _ (K : List ℕ → Type 0) (flag : ℕ) (mark : Lasting (eqb flag 1) K) 
         s′ : State
         s′ = withCore s (r .near .core)
 
-        regs-all : Left f m r → s′ .regs ≡ all
+        LeftHere : Type 0
+        LeftHere = Left f m (r .near .core) (r .memory) (r .tables)
+
+        regs-all : LeftHere → s′ .regs ≡ all
         regs-all h = ap (putFile (s .regs) (s .level)) (h .file)
 
         -- what is kept of the stage's memory and registers is kept of those before it
-        before : (q : Turn) → Left f m r → Keeps (s′ .regs) (r .memory) q → Keeps all m q
+        before : (q : Turn) → LeftHere → Keeps (s′ .regs) (r .memory) q → Keeps all m q
         before q h k e =
             let x = k e in
             record { regs = x .regs ∙ regs-all h; memory = x .memory ∙ h .memory; tables = x .tables }
 
-        go : (x : Far) → LeftBy f m r x → Keeps all m (farStage s′ (r .near .gave) (r .memory) (r .tables) x)
+        go : (x : Far) → LeftBy f m (r .near .core) (r .near .gave) (r .memory) (r .tables) x
+            → Keeps all m (farStage s′ (r .near .gave) (r .memory) (r .tables) x)
         go Nothing h = λ e. let x = h e in record { regs = regs-all x; memory = x .memory; tables = x .tables }
         go (Call w) h = λ e. absurd (no-both (sym h ∙ e))
         go (ReadRegister j x) h = λ e. absurd (no-both (sym h ∙ e))

@@ -10,5 +10,6 @@ pub mod Status
 pub mod Extended
 pub mod Devices
 pub mod DeviceInput
+pub mod References
 pub mod Views
 pub mod Numbers

@@ -67,11 +67,11 @@ step-again (StepRefused x) = rw (refusal-above x) (ap StepRefused (refusal-again
 
 abbrev runAt : Told → RunAnswer
 runAt r =
-    cond (eqb (r .number) 0) (Ran (getD (r .values) 0 0) (reasonAt (getD (r .values) 1 0)))
+    cond (eqb (r .number) 0) (Ran (getD (r .values) 0 0) (reasonAt (getD (r .values) 1 0)) (getD (r .values) 2 0))
     (RunRefused (refusalAt (r .number)))
 
 run-again : (a : RunAnswer) → runAt (runNumbers a) ≡ a
-run-again (Ran k w) = ap (Ran k) (reason-again w)
+run-again (Ran k w g) = ap (λ (v : Reason). Ran k v g) (reason-again w)
 run-again (RunRefused x) = rw (refusal-above x) (ap RunRefused (refusal-again x))
 
 -- of a read out, none is told apart from a character by having no value
@@ -127,8 +127,11 @@ run-tells : (first : Bool) (n : ℕ) (s : State) (m t : List ℕ)
 unfolding runCall runTold
 run-tells first n s m t = go (stateAnswer s m t) ∙ state-tells s m t [] values
   where
+    r : Run
+    r = runFrom first n 0 s m t
+
     values : List ℕ
-    values = runFrom first n 0 s m t .steps ∷ reasonNumber (runFrom first n 0 s m t .reason) ∷ []
+    values = r .steps ∷ reasonNumber (r .reason) ∷ r .references ∷ []
 
     go : (a : Answer) → runNumbers (runCallBy a first n s m t .answer) ≡ after a (tellsBy [] values)
     go Done = refl
@@ -202,7 +205,7 @@ input-run-tells n gs s m t = go (stateAnswer s m t) ∙ state-tells s m t [] val
     r = inputRunFrom n gs 0 s m t .run
 
     values : List ℕ
-    values = r .steps ∷ reasonNumber (r .reason) ∷ []
+    values = r .steps ∷ reasonNumber (r .reason) ∷ r .references ∷ []
 
     go : (a : Answer) → runNumbers (inputRunCallBy a n gs s m t .answer) ≡ after a (tellsBy [] values)
     go Done = refl

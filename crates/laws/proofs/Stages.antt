@@ -1,14 +1,15 @@
 -- What a step keeps, stage by stage: of the running level, and of the state that it is put back into.
 -- Assumes nothing.
 use Prim.Native.Nat.{ℕ}
-use mathlib.Core.Path.{_≡_, refl}
+use mathlib.Core.Path.{_≡_, refl, sym}
 use mathlib.Core.Bool.{true}
 use mathlib.Core.List.{List}
 use lib.ListN.{length}
 use Rattle.isa.specs.Machine.{coreOf, withCore, withFile, next, nextCore}
 use Rattle.isa.specs.Instructions.{indirectRequest, request, Completed}
 use Rattle.isa.specs.Pages.{testAll, faultOf, passes, wordAt, rightsOf}
-use Rattle.isa.specs.Step.{Part, Turn, part, gives, faulted, failed, trapped, finished, operandsTested, operands}
+use Rattle.isa.specs.Step.{Part, Turn, part, counted, countedTurn, gives, faulted, failed, trapped, finished}
+use Rattle.isa.specs.Step.{operandsTested, operands}
 use Rattle.isa.specs.Step.{indirectTested, userStage, systemStage, privileged, instructionStage, instructionOf}
 use Rattle.isa.specs.Step.{afterFetch, fetched, stepIn, withRegs, farStage, settled, isStopped, changeDue, levelChanged}
 use Rattle.isa.specs.Step.{step}
@@ -22,6 +23,7 @@ use Rattle.isa.specs.declared.instruction.Instruction.the-variants.{Unprivilege
 use Rattle.isa.specs.declared.access.Translation.{Translation}
 use Rattle.isa.specs.declared.answer.Far.the-variants.{Nothing}
 use Rattle.isa.proofs.Tests.{either, decided}
+use Rattle.isa.proofs.Counts.{counted-turn-twice}
 use Rattle.laws.specs.Statement.{fetchOutcome, fetchRing, fetchedCore, fetchedTables, Executes}
 
 -- In, of the running level, and K, of the state that it is put back into, are kept by new registers, by an interrupt,
@@ -37,6 +39,11 @@ module _ (In : Core → Type 0) (K : State → Type 0) (F : ℕ → Type 0) (kee
   -- what a stage leaves, put back and with what is left to be done
   abbrev pub Claim : Part → Type 0
   Claim r = (s : State) → F (settled s r .gave) → K (settled s r .state)
+
+  -- references before it change nothing of that
+  pub counted-keeps : (n : ℕ) (r : Part) → Claim r → Claim (counted n r)
+  unfolding settled
+  counted-keeps n r h = h
 
   -- nothing is left to be done
   pub done-keeps : (c : Core) (n : ℕ) (m t : List ℕ) → In c → Claim (part c n Nothing m t)
@@ -67,15 +74,17 @@ module _ (In : Core → Type 0) (K : State → Type 0) (F : ℕ → Type 0) (kee
   unfolding operands operandsTested
   operands-keeps c m t u i h =
       let r = testAll t (length m) (rightsOf c) (request u (c .file) i) in
-      either Claim (passes (r .fault)) (finished-keeps c m (r .tables) (r .places) _ h)
-      (failed-keeps (nextCore c) (r .fault) m (r .tables) (next-keeps c h))
+      counted-keeps (r .made) _
+      (either Claim (passes (r .fault)) (finished-keeps c m (r .tables) (r .places) _ h)
+      (failed-keeps (nextCore c) (r .fault) m (r .tables) (next-keeps c h)))
 
   user-keeps : (c : Core) (m t : List ℕ) (u : User) → In c → Claim (userStage c m t u)
   unfolding userStage indirectTested
   user-keeps c m t u h =
       let r = testAll t (length m) (rightsOf c) (indirectRequest u (c .file)) in
-      either Claim (passes (r .fault)) (operands-keeps c m (r .tables) u _ h)
-      (failed-keeps (nextCore c) (r .fault) m (r .tables) (next-keeps c h))
+      counted-keeps (r .made) _
+      (either Claim (passes (r .fault)) (operands-keeps c m (r .tables) u _ h)
+      (failed-keeps (nextCore c) (r .fault) m (r .tables) (next-keeps c h)))
 
   -- ---- fetch and execute; of a privileged instruction, the claim is supposed
 
@@ -97,8 +106,9 @@ module _ (In : Core → Type 0) (K : State → Type 0) (F : ℕ → Type 0) (kee
       → Claim (fetched l c m t ring x)
   unfolding fetched
   fetched-keeps l c m t ring x h after other =
-      decided Claim (passes x) (λ p. instruction-keeps l (afterFetch c ring x) m t _ after (other p))
-      (λ e. failed-keeps c x m t h)
+      counted-keeps 1 _
+      (decided Claim (passes x) (λ p. instruction-keeps l (afterFetch c ring x) m t _ after (other p))
+      (λ e. failed-keeps c x m t h))
 
   -- ---- one step
 
@@ -120,8 +130,15 @@ module _ (In : Core → Type 0) (K : State → Type 0) (F : ℕ → Type 0) (kee
         (λ stays. fetched-keeps (s .level) (coreOf s) m (fetchedTables s m t) (fetchRing s t) x h after
         (λ p o e q. other o (record { runs = runs; level-stays = stays; passed = p; code = e; permitted = q })) s))
 
--- a step that executes a privileged instruction is its stage, put back
+-- references before a stage, put back with it
+settled-counted : (n : ℕ) (s : State) (r : Part) → settled s (counted n r) ≡ countedTurn n (settled s r)
+unfolding settled
+settled-counted n s r = sym (counted-turn-twice n (r .near .references) _)
+
+-- a step that executes a privileged instruction is its stage, put back, with the reference of the fetch
 pub executed-step : {o : System} {s : State} {m t : List ℕ} → Executes o s m t
-    → step s m t ≡ settled s (systemStage (s .level) (nextCore (fetchedCore s m t)) m (fetchedTables s m t) o)
+    → step s m t
+    ≡ countedTurn 1 (settled s (systemStage (s .level) (nextCore (fetchedCore s m t)) m (fetchedTables s m t) o))
 unfolding step stepIn fetched instructionStage
-executed-step h = rw (h .runs, h .level-stays, h .passed, h .code, h .permitted)
+executed-step {s} h =
+    rw (h .runs, h .level-stays, h .passed, h .code, h .permitted) (settled-counted 1 s _)

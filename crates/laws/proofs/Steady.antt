@@ -12,7 +12,7 @@ use Rattle.isa.specs.System.{withSwitches, withLevels, withInternal, withPaging
 use Rattle.isa.specs.System.{controlled}
 use Rattle.isa.specs.InputOutput.{registerOf, answers, exchanged, lineOf, flipFlop}
 use Rattle.isa.specs.Pages.{faultOf, passes}
-use Rattle.isa.specs.Physical.{transferAddress, firstPlace, secondPlace, firstFault}
+use Rattle.isa.specs.Physical.{transferAddress, firstPlace, secondPlace, firstFault, transferMade}
 use Rattle.isa.specs.Step.{Part, Turn, part, interrupted, withPgs, faulted, physicalAddress, examined, deposited}
 use Rattle.isa.specs.Step.{transferStage, deviceStage, identStage, systemStage, farStage, settled, isStopped}
 use Rattle.isa.specs.Step.{changeDue, levelChanged, step}
@@ -49,7 +49,8 @@ use Rattle.isa.proofs.Runs.{run-taken}
 use Rattle.laws.specs.Statement.{fetchOutcome, fetchRing, Executes, stepped}
 use Rattle.laws.proofs.Far.{settled-keeps}
 use Rattle.laws.proofs.Fetch.{after-fetch-control}
-use Rattle.laws.proofs.Stages.{Keeping, Claim, done-keeps, trapped-keeps, failed-keeps, step-keeps}
+use Rattle.laws.proofs.Stages.{Keeping, Claim, counted-keeps, done-keeps, trapped-keeps, failed-keeps}
+use Rattle.laws.proofs.Stages.{step-keeps}
 
 -- the privileged instructions that reach the devices
 pub data ReachesDevices : System → Type 0 where
@@ -136,22 +137,26 @@ module _ (K : Control → Type 0) (Sets : System → Type 0) (F : ℕ → Type 0
   examined-keeps : (c : Core) (m t : List ℕ) → In c → Left (examined c m t)
   unfolding examined
   examined-keeps c m t h =
-      either Left (ltb (physicalAddress (c .file)) (length m)) (done-keeps In Of F keeping _ 0 m t h)
-      (failed-keeps In Of F keeping c OutOfRange m t h)
+      counted-keeps In Of F keeping 1 _
+      (either Left (ltb (physicalAddress (c .file)) (length m)) (done-keeps In Of F keeping _ 0 m t h)
+      (failed-keeps In Of F keeping c OutOfRange m t h))
 
   deposited-keeps : (c : Core) (m t : List ℕ) → In c → Left (deposited c m t)
   unfolding deposited
   deposited-keeps c m t h =
-      either Left (ltb (physicalAddress (c .file)) (length m)) (done-keeps In Of F keeping c 0 _ t h)
-      (failed-keeps In Of F keeping c OutOfRange m t h)
+      counted-keeps In Of F keeping 1 _
+      (either Left (ltb (physicalAddress (c .file)) (length m)) (done-keeps In Of F keeping c 0 _ t h)
+      (failed-keeps In Of F keeping c OutOfRange m t h))
 
   transfer-keeps : (c : Core) (m t : List ℕ) (o : Transfer) (d : ℕ) → In c → Left (transferStage c m t o d)
   unfolding transferStage
   transfer-keeps c m t o d h =
       let form : Bool = eqb (c .control .extended) 1 in
       let p : ℕ = transferAddress (c .file) d in
-      let x = firstFault (firstPlace form (length m) o p) (secondPlace form (length m) o p) in
-      either Left (passes x) (done-keeps In Of F keeping _ 0 _ _ h) (failed-keeps In Of F keeping c x m t h)
+      let x = firstPlace form (length m) o p in
+      let z = firstFault x (secondPlace form (length m) o p) in
+      counted-keeps In Of F keeping (transferMade o x) _
+      (either Left (passes z) (done-keeps In Of F keeping _ 0 _ _ h) (failed-keeps In Of F keeping c z m t h))
 
   -- with something left to be done
   far-keeps : (c : Core) (far : Far) (m t : List ℕ) → In c → Left (part c 0 far m t)

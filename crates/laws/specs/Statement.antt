@@ -14,7 +14,7 @@ use Rattle.isa.specs.Pages.{slotOf, entryAt, translate, marked, passes, wordAt,
 use Rattle.isa.specs.Physical.{physicalPlace}
 use Rattle.isa.specs.Step.{Turn, turn, withPgs, privileged, instructionOf, afterFetch, fetchOf, placeOf, registerAt}
 use Rattle.isa.specs.Step.{isStopped, changeDue, step}
-use Rattle.isa.specs.Run.{runFrom}
+use Rattle.isa.specs.Run.{countedRun, runFrom}
 use Rattle.isa.specs.Answers.{refusalNumber, reasonNumber, answerNumbers, stepNumbers, runNumbers, stepTold, runTold}
 use Rattle.isa.specs.Answers.{raiseTold, loadTold, writeTold, viewTold, stepCall, runCall, raiseCall, loadCall}
 use Rattle.isa.specs.Answers.{writeAnswer, targetOf, viewAnswer, viewed, sentNumbers, characterSentOf, tickCall}
@@ -342,13 +342,25 @@ NoInputRun =
     ≡ record { answer = r .answer; told = []; state = r .state; memory = r .memory; tables = r .tables }
 
 -- so that a run may stop at an input's step and go on from there: a run of a + b steps, of either form, is the run of
--- a and, if that is spent, of b from what it left
+-- a and, if that is spent, of b from what it left; its references are then the sum of those of both, modulo 2^64
 abbrev pub RunInTwo : Type 0
 RunInTwo =
     (first : Bool) (a b k : ℕ) (s : State) (m t : List ℕ)
     → let r = runFrom first a k s m t in
-    runFrom first (a + b) k s m t
-    ≡ cond (isSpent (r .reason)) (runFrom first b (r .steps) (r .state) (r .memory) (r .tables)) r
+    let q = runFrom first b (r .steps) (r .state) (r .memory) (r .tables) in
+    runFrom first (a + b) k s m t ≡ cond (isSpent (r .reason)) (countedRun (r .references) q) r
+
+-- ---- Document 02, card 7: "run answers the sum (its low 64 bits)"
+
+-- ruling 7.2: a step of a stopped machine makes no reference, nor does a change of level
+abbrev pub NoneWithoutFetch : Type 0
+NoneWithoutFetch = (s : State) (m t : List ℕ) → (isStopped s || changeDue s) ≡ true → step s m t .references ≡ 0
+
+-- ruling 7.4: a run of either form that takes no step answers 0
+abbrev pub NoneWithoutStep : Type 0
+NoneWithoutStep =
+    (first : Bool) (n : ℕ) (s : State) (m t : List ℕ) → runFrom first n 0 s m t .steps ≡ 0
+    → runFrom first n 0 s m t .references ≡ 0
 
 -- ---- "View: .. It answers a part of the caller's memory or of the caller's page tables." "a refused view is empty"
 

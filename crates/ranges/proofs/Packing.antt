@@ -10,7 +10,7 @@ use lib.ListN.{getD, set, drop, length, length-set}
 use lib.Dec.{eqb}
 use Rattle.isa.specs.Machine.{Words, fileWords, fileAt, putFile, coreOf, withCore, pcrMask}
 use Rattle.isa.specs.Pages.{Tested, passes, wordsAt, rightsOf}
-use Rattle.isa.specs.Step.{Turn, withPcrs, placeOf, registerAt, kept, putRegister, isP, putOther, pcrLevel}
+use Rattle.isa.specs.Step.{Turn, countedTurn, withPcrs, placeOf, registerAt, kept, putRegister, isP, putOther, pcrLevel}
 use Rattle.isa.specs.Step.{blockOrder, blockRequest, blockWords, putBlock, blockFailed, blockStored, blockLoaded}
 use Rattle.isa.specs.Step.{blockTested, farStage}
 use Rattle.isa.specs.declared.machine.Core.{Core}
@@ -142,6 +142,10 @@ pub record TurnFits (r : Turn) : Type 0 where
   pub state : StateFits (r .state)
   pub lent : LentFits (r .memory) (r .tables)
 
+-- .. with references before it
+pub counted-turn-fits : (n : ℕ) {r : Turn} → TurnFits r → TurnFits (countedTurn n r)
+counted-turn-fits n h = record { state = h .state; lent = h .lent }
+
 -- a block's access that failed
 block-failed-fits : {s : State} → StateFits s → (x : Translation) (m t : List ℕ)
     → passes x ≡ false → FaultFits x → LentFits m t → TurnFits (blockFailed s x m t)
@@ -152,24 +156,26 @@ block-stored-fits : {s : State} → StateFits s → (l : ℕ) (m : List ℕ) (r 
     → LentFits m (r .tables) → FaultFits (r .fault) → TurnFits (blockStored s l m r)
 unfolding blockStored
 block-stored-fits {s} h l m r k f =
-    decided TurnFits (passes (r .fault))
+    counted-turn-fits (r .made)
+    (decided TurnFits (passes (r .fault))
     (λ e. record {
       state = h;
       lent = stored-fits (r .places) m (r .tables) (blockWords s l blockOrder) k (block-words blockOrder h l);
     })
-    (λ e. block-failed-fits h (r .fault) m (r .tables) e f k)
+    (λ e. block-failed-fits h (r .fault) m (r .tables) e f k))
 
 -- LRB
 block-loaded-fits : {s : State} → StateFits s → (l : ℕ) (m : List ℕ) (r : Tested)
     → LentFits m (r .tables) → FaultFits (r .fault) → TurnFits (blockLoaded s l m r)
 unfolding blockLoaded
 block-loaded-fits {s} h l m r k f =
-    decided TurnFits (passes (r .fault))
+    counted-turn-fits (r .made)
+    (decided TurnFits (passes (r .fault))
     (λ e. record {
       state = put-block-fits blockOrder h l (wordsAt m (r .tables) (r .places)) (read-words k (r .places));
       lent = k;
     })
-    (λ e. block-failed-fits h (r .fault) m (r .tables) e f k)
+    (λ e. block-failed-fits h (r .fault) m (r .tables) e f k))
 
 -- a block's tests
 block-tested-fits : (x : AccessKind) (s : State) (m t : List ℕ) → LentFits m t

@@ -12,8 +12,8 @@ use Rattle.isa.specs.Machine.{wordRange, levelCount, Words, reg, coreOf}
 use Rattle.isa.specs.Instructions.{indirectRequest, request, complete, Completed}
 use Rattle.isa.specs.Pages.{translate, marked, testAll, Tested, passes, wordAt, wordsAt, wordsOf, rightsOf}
 use Rattle.isa.specs.Physical.{transferAddress, transferKind, twoWords, triple, transferStores, transferred, firstPlace}
-use Rattle.isa.specs.Physical.{secondPlace, firstFault}
-use Rattle.isa.specs.Step.{Part, part, failed, trapped, finishedCore, finished, operandsTested, operands}
+use Rattle.isa.specs.Physical.{secondPlace, firstFault, transferMade}
+use Rattle.isa.specs.Step.{Part, part, counted, failed, trapped, finishedCore, finished, operandsTested, operands}
 use Rattle.isa.specs.Step.{indirectTested, userStage, physicalAddress, examined, deposited, transferStage, systemStage}
 use Rattle.isa.specs.Step.{privileged, instructionStage, instructionOf, afterFetch, fetched, fetchOf, stepIn, settled}
 use Rattle.isa.specs.Step.{isStopped, changeDue, levelChanged, step, deviceStage, identStage}
@@ -49,13 +49,18 @@ use Rattle.ranges.proofs.Pages.{FaultFits, LentFits, rights-fit, transl
 use Rattle.ranges.proofs.Pages.{marked-fits, tested-fits, tested-fault, stored-fits, word-at-word, read-words}
 use Rattle.ranges.proofs.Places.{set-words, nil-words, cons-words}
 use Rattle.ranges.proofs.States.{StateFits}
-use Rattle.ranges.proofs.Packing.{FarFits, TurnFits, core-fits, with-core-fits, far-fits}
+use Rattle.ranges.proofs.Packing.{FarFits, TurnFits, counted-turn-fits, core-fits, with-core-fits}
+use Rattle.ranges.proofs.Packing.{far-fits}
 
 -- what a stage leaves
 pub record PartFits (r : Part) : Type 0 where
   pub core : CoreFits (r .near .core)
   pub far : FarFits (r .near .far)
   pub lent : LentFits (r .memory) (r .tables)
+
+-- .. with references before it
+counted-fits : (n : ℕ) {r : Part} → PartFits r → PartFits (counted n r)
+counted-fits n h = record { core = h .core; far = h .far; lent = h .lent }
 
 -- ---- faults and traps
 
@@ -90,10 +95,11 @@ operands-tested-fit : {c : Core} → CoreFits c → (m : List ℕ) (u : User) (i
 unfolding operandsTested
 operands-tested-fit {c} h m u i r n k f =
     let ws : List ℕ = wordsAt m (r .tables) (r .places) in
-    decided PartFits (passes (r .fault))
+    counted-fits (r .made)
+    (decided PartFits (passes (r .fault))
     (λ e. finished-fits h m (r .tables) (r .places) (complete u (c .file) i ws) k
     (completes u i ws (h .file) n (read-words k (r .places))))
-    (λ e. failed-fits (next-core-fits h) (r .fault) m (r .tables) e f k)
+    (λ e. failed-fits (next-core-fits h) (r .fault) m (r .tables) e f k))
 
 -- its accesses asked for
 operands-fit : {c : Core} → CoreFits c → (m t : List ℕ) (u : User) (i : ℕ)
@@ -109,9 +115,10 @@ indirect-tested-fit : {c : Core} → CoreFits c → (m : List ℕ) (u : User) (r
     → LentFits m (r .tables) → FaultFits (r .fault) → PartFits (indirectTested c m u r)
 unfolding indirectTested
 indirect-tested-fit h m u r k f =
-    decided PartFits (passes (r .fault))
+    counted-fits (r .made)
+    (decided PartFits (passes (r .fault))
     (λ e. operands-fit h m (r .tables) u (getD (wordsAt m (r .tables) (r .places)) 0 0) (read-words k (r .places) 0) k)
-    (λ e. failed-fits (next-core-fits h) (r .fault) m (r .tables) e f k)
+    (λ e. failed-fits (next-core-fits h) (r .fault) m (r .tables) e f k))
 
 -- the whole of it
 user-fits : {c : Core} → CoreFits c → (m t : List ℕ) (u : User) → LentFits m t → PartFits (userStage c m t u)
@@ -128,9 +135,10 @@ examined-fits : {c : Core} → CoreFits c → (m t : List ℕ) → LentFits m t 
 unfolding examined
 examined-fits {c} h m t k =
     let a : ℕ = physicalAddress (c .file) in
-    either PartFits (ltb a (length m))
+    counted-fits 1
+    (either PartFits (ltb a (length m))
     (record { core = file-fits h (with-word (h .file) T refl (k .memory a)); far = tt; lent = k })
-    (failed-fits h OutOfRange m t refl tt k)
+    (failed-fits h OutOfRange m t refl tt k))
 
 -- DEPO
 deposited-fits : {c : Core} → CoreFits c → (m t : List ℕ) → LentFits m t → PartFits (deposited c m t)
@@ -138,8 +146,10 @@ unfolding deposited
 deposited-fits {c} h m t k =
     let a : ℕ = physicalAddress (c .file) in
     let w : Words (set m a (reg (c .file) T)) = set-words m a (reg (c .file) T) (k .memory) (reg-word (h .file) T) in
-    either PartFits (ltb a (length m)) (record { core = h; far = tt; lent = record { memory = w; tables = k .tables } })
-    (failed-fits h OutOfRange m t refl tt k)
+    counted-fits 1
+    (either PartFits (ltb a (length m))
+    (record { core = h; far = tt; lent = record { memory = w; tables = k .tables } })
+    (failed-fits h OutOfRange m t refl tt k))
 
 -- LDATX to STDTX: the registers afterwards, with the words w and v loaded ..
 transferred-fits : {f : File} → FileFits f → (o : Transfer) {w v : ℕ} → w < 65536 → v < 65536
@@ -180,13 +190,14 @@ transfer-fits {c} h m t o d k =
     let first : FaultFits x = physical-fits form (length m) (transferKind o) p in
     let second : FaultFits y =
     either FaultFits (twoWords o) (physical-fits form (length m) (transferKind o) (p + 1)) tt in
-    decided PartFits (passes (firstFault x y))
+    counted-fits (transferMade o x)
+    (decided PartFits (passes (firstFault x y))
     (λ e. record {
       core = file-fits h (transferred-fits (h .file) o (word-at-word k x) (word-at-word k y));
       far = tt;
       lent = stored-fits (x ∷ y ∷ []) m t (wordsOf (transferStores o (c .file))) k (transfer-words (h .file) o);
     })
-    (λ e. failed-fits h (firstFault x y) m t e (either FaultFits (passes x) second first) k)
+    (λ e. failed-fits h (firstFault x y) m t e (either FaultFits (passes x) second first) k))
 
 -- IOX and IOXT
 device-fits : {c : Core} → CoreFits c → (m t : List ℕ) (r : DeviceRegister) → LentFits m t
@@ -257,8 +268,9 @@ fetched-fits : (l : ℕ) {c : Core} → l < levelCount → CoreFits c → (m t :
 unfolding fetched
 fetched-fits l {c} a h m t ring x f k =
     let w : ℕ = wordAt m t x in
-    decided PartFits (passes x) (λ e. instruction-fits l a (after-fetch-fits h ring x) m t (instructionOf c w) k)
-    (λ e. failed-fits h x m t e f k)
+    counted-fits 1
+    (decided PartFits (passes x) (λ e. instruction-fits l a (after-fetch-fits h ring x) m t (instructionOf c w) k)
+    (λ e. failed-fits h x m t e f k))
 
 -- the running level
 pub step-in-fits : (l : ℕ) {c : Core} → l < levelCount → CoreFits c → (m t : List ℕ) → LentFits m t
@@ -275,7 +287,8 @@ step-in-fits l {c} a h m t k =
 settled-fits : {s : State} → StateFits s → (r : Part) → PartFits r → TurnFits (settled s r)
 unfolding settled
 settled-fits h r k =
-    far-fits (with-core-fits h (k .core)) (r .near .gave) (r .memory) (r .tables) (r .near .far) (k .far) (k .lent)
+    counted-turn-fits (r .near .references)
+    (far-fits (with-core-fits h (k .core)) (r .near .gave) (r .memory) (r .tables) (r .near .far) (k .far) (k .lent))
 
 -- a change of level
 level-changed-fits : {s : State} → StateFits s → StateFits (levelChanged s)
