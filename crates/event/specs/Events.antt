@@ -1,11 +1,11 @@
 -- How a step of the running level ends, and what that makes of the machine.
-use Prim.Native.Nat.{ℕ}
+use Prim.Native.Nat.{ℕ, _+_}
 use mathlib.Core.Bool.{Bool, true, false, cond}
 use mathlib.Core.List.{List}
 use Rattle.isa.specs.Flags.{bitsOf}
 use Rattle.isa.specs.Machine.{interruptMon, interruptIllegal, interruptError, interruptPrivileged, withFile}
 use Rattle.isa.specs.Instructions.{Completed}
-use Rattle.isa.specs.Step.{Part, part, failed, trapped, gives, privileged, systemStage}
+use Rattle.isa.specs.Step.{Part, part, counted, failed, trapped, gives, privileged, systemStage}
 use Rattle.isa.specs.declared.machine.Core.{Core}
 use Rattle.isa.specs.declared.answer.Far.the-variants.{Nothing, Call}
 use Rattle.event.specs.declared.Event.{Event}
@@ -33,9 +33,17 @@ isFine NotPrivileged = false
 isFine (Monitor n) = false
 isFine Illegal = false
 
--- the ending of a completion that stores nothing: RDIV's error is an event
+-- the ending of a completion that makes no access: RDIV's error is an event
 abbrev pub endingOf : Completed → Ending
-endingOf k = record { file = k .file; event = cond (k .error) Error Fine }
+endingOf k = record { references = 0; event = cond (k .error) Error Fine; file = k .file }
+
+-- the ending e, which tells the references up to a failed access alone, with n before it; all where none failed
+abbrev pub countedEnding : ℕ → ℕ → Ending → Ending
+countedEnding n all e = record {
+  references = cond (isFine (e .event)) all (n + e .references);
+  event = e .event;
+  file = e .file;
+}
 
 -- the event e, where a privileged instruction needs a ring that may execute it
 unfoldable pub byPrivilege : Bool → Event → Event
@@ -49,4 +57,5 @@ byPrivilege b Illegal = Illegal
 
 -- what the ending e leaves at level l, in the core c
 abbrev pub endedPart : ℕ → Core → Ending → List ℕ → List ℕ → Part
-endedPart l c e m t = eventPart l (withFile c (e .file)) m t (byPrivilege (privileged c) (e .event))
+endedPart l c e m t =
+    counted (e .references) (eventPart l (withFile c (e .file)) m t (byPrivilege (privileged c) (e .event)))

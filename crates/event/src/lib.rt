@@ -1,8 +1,9 @@
 // How a step of the running level ends.
 ghost use mathlib.Core.Path.{_≡_};
 ghost use mathlib.Core.Bool.{not};
-ghost use Rattle.event.specs.Events.{isFine, byPrivilege};
-ghost use Rattle.event.specs.declared.Event.the-variants.{Fine};
+ghost use Prim.Native.Nat.{_+_, _<_, _^_};
+ghost use Rattle.event.specs.Events.{isFine, byPrivilege, countedEnding};
+ghost use Rattle.event.specs.declared.Event.the-variants.{Fine, Failed};
 use isa::access::Translation;
 use isa::instruction::System;
 use isa::machine::File;
@@ -19,25 +20,65 @@ pub enum Event {
     Illegal,
 }
 
-// The level's registers after an instruction, and how it ended.
+// The references made, how an instruction ended, and the level's registers after it. While a request is served, they
+// are those up to a failed access, and 0 where none failed: `counted` then takes the request's number.
 pub struct Ending {
-    pub file: File,
+    pub references: u32,
     pub event: Event,
+    pub file: File,
 }
 
 pub fn fine(f: File) -> Ending
-    ensures { λ e. ⌜ e ≡ record { file = f; event = Fine } ⌝ }
+    ensures { λ e. ⌜ e ≡ record { references = 0; event = Fine; file = f } ⌝ }
 {
     Ending {
-        file: f,
+        references: 0,
         event: Event::Fine,
+        file: f,
     }
 }
 
 pub fn with_event(f: File, e: Event) -> Ending
-    ensures { λ r. ⌜ r ≡ record { file = f; event = e } ⌝ }
+    ensures { λ r. ⌜ r ≡ record { references = 0; event = e; file = f } ⌝ }
 {
-    Ending { file: f, event: e }
+    Ending {
+        references: 0,
+        event: e,
+        file: f,
+    }
+}
+
+// An access failed; so many were made, it among them.
+pub fn failed(f: File, x: Translation, made: u32) -> Ending
+    ensures { λ r. ⌜ r ≡ record { references = made; event = Failed x; file = f } ⌝ }
+{
+    Ending {
+        references: made,
+        event: Event::Failed(x),
+        file: f,
+    }
+}
+
+// A served request with its references: all that were to be made, or, where an access failed, the n before the request
+// and those up to that access.
+pub fn counted(e: Ending, n: u32, all: u32) -> Ending
+    requires { ⌜ n + e .references < 2 ^ 32 ⌝ }
+    ensures { λ r. ⌜ r ≡ countedEnding n all e ⌝ }
+{
+    let event = e.event;
+    let file = e.file;
+    if let Event::Fine = event {
+        return Ending {
+            references: all,
+            event: Event::Fine,
+            file: file,
+        };
+    }
+    Ending {
+        references: n + e.references,
+        event: event,
+        file: file,
+    }
 }
 
 // Whether an event leaves something to be done.

@@ -1,19 +1,21 @@
 -- A request's accesses, what was read and stored, and the file that it leaves, as the machine's own definition has
 -- them.
 -- Assumes nothing.
-use Prim.Native.Nat.{ℕ}
+use Prim.Native.Nat.{ℕ, suc, _+_, _≤_}
 use mathlib.Core.Path.{_≡_, refl, ap, sym, _∙_, subst}
 use mathlib.Core.Bool.{Bool, true, false, not, cond}
 use mathlib.Core.List.{List, [], _∷_}
+use native.Mathlib.Nat.{zero-add}
+use native.Mathlib.Omega.{arith}
 use lib.ListN.{length}
 use lib.Dec.{ltb, eqb}
 use Rattle.isa.specs.Machine.{reg, next, nextCore, withFile}
-use Rattle.isa.specs.Address.{access}
+use Rattle.isa.specs.Address.{access, sum}
 use Rattle.isa.specs.Instructions.{Completed, loads, storing, memoryRequest, memoryCompletion}
 use Rattle.isa.specs.Pages.{Entry, entryAt, slotOf, tableOf, somePermit, needed, ringAllows, physical, withinMemory}
-use Rattle.isa.specs.Pages.{judged, inWindow, translate, marked, faultOf, Tested, testAll, passes, wordsAt, Lent}
-use Rattle.isa.specs.Pages.{lent, storeAll}
-use Rattle.isa.specs.Step.{part, failed, finished}
+use Rattle.isa.specs.Pages.{judged, inWindow, translate, marked, faultOf, Tested, alsoAt, testAll, passes, wordsAt}
+use Rattle.isa.specs.Pages.{Lent, lent, storeAll}
+use Rattle.isa.specs.Step.{Part, part, counted, failed, finished}
 use Rattle.isa.specs.declared.access.Access.{Access}
 use Rattle.isa.specs.declared.access.AccessKind.{AccessKind}
 use Rattle.isa.specs.declared.access.AccessKind.the-variants.{Read}
@@ -28,7 +30,8 @@ use Rattle.isa.specs.declared.instruction.MemoryOp.the-variants.{Ldt, Ldx, Add,
 use Rattle.isa.specs.declared.machine.Core.{Core}
 use Rattle.isa.specs.declared.machine.File.{File}
 use Rattle.isa.specs.declared.machine.Register.the-variants.{D, A, T}
-use Rattle.isa.proofs.Tests.{either}
+use Rattle.isa.proofs.Tests.{either, no-both}
+use Rattle.isa.proofs.Counts.{made-most}
 use Rattle.paging.specs.Outcome.{Outcome}
 use Rattle.paging.proofs.Outcomes.{Found, done, found-within, found-passed, found-failed, passes-zero, fails-other}
 use Rattle.memory_words.specs.Accesses.{severalWords, placesOf, threePlaces}
@@ -37,12 +40,13 @@ use Rattle.memory_words.specs.declared.outcome.Places.the-variants.{Two, Three,
 use Rattle.memory_words.proofs.OperandLaws.{padded}
 use Rattle.exec_address.specs.Requests.{requestOf, completionOf, changeOf, wordsLoaded, wordsStored, threeStored}
 use Rattle.exec_address.specs.declared.request.Request.{Request}
-use Rattle.exec_address.specs.declared.request.Request.the-variants.{Several}
+use Rattle.exec_address.specs.declared.request.Request.the-variants.{Jump, Link, Read as ReadOf, Write as WriteOf}
+use Rattle.exec_address.specs.declared.request.Request.the-variants.{Several, Update}
 use Rattle.memory_words.specs.declared.location.Location.{Location}
-use Rattle.event.specs.Events.{eventPart, byPrivilege, endedPart}
+use Rattle.event.specs.Events.{eventPart, byPrivilege, endedPart, countedEnding}
 use Rattle.event.specs.declared.Ending.{Ending}
 use Rattle.event.specs.declared.Event.the-variants.{Fine, Failed}
-use Rattle.exec_memory.specs.Served.{accessesOf, severalKind, accessedBy, Served, afterExchange}
+use Rattle.exec_memory.specs.Served.{accessesOf, accessCount, severalKind, accessedBy, Served, afterExchange}
 use Rattle.exec_address.specs.declared.request.Change.{Change}
 use Rattle.exec_memory.specs.declared.update.Exchanged.{Exchanged}
 
@@ -121,32 +125,75 @@ loads-all (x ∷ xs) h t words r =
     either (λ (i : Tested). AllLoadOnly (i .places)) (passes (translate t words r x))
     (read, loads-all xs (h .1) (marked t words r x) words r) tt
 
+-- ---- how many accesses are made
+
+-- as many as the request has
+count-length : (q : Request) (alternate : Bool) (a : ℕ) → accessCount q ≡ length (accessesOf q alternate a)
+count-length Jump alternate a = refl
+count-length Link alternate a = refl
+count-length (ReadOf k) alternate a = refl
+count-length (WriteOf w) alternate a = refl
+count-length (Several store n) alternate a = go (eqb n 2)
+  where
+    go : (b : Bool) → cond b 2 3 ≡ suc (suc (length (cond b [] (access (severalKind store) alternate (sum a 2) ∷ []))))
+    go true = refl
+    go false = refl
+count-length (Update k) alternate a = refl
+
+pub three-at-most : (q : Request) → accessCount q ≤ 3
+three-at-most Jump = omega arith
+three-at-most Link = omega arith
+three-at-most (ReadOf k) = omega arith
+three-at-most (WriteOf w) = omega arith
+three-at-most (Several store n) = either (λ (x : ℕ). x ≤ 3) (eqb n 2) (omega arith) (omega arith)
+three-at-most (Update k) = omega arith
+
+-- all of a list, if all passed
+made-all : (t : List ℕ) (words : ℕ) (r : Rights) (xs : List Access) → passes (testAll t words r xs .fault) ≡ true
+    → testAll t words r xs .made ≡ length xs
+made-all t words r [] h = refl
+made-all t words r (x ∷ xs) h = go (passes (translate t words r x)) refl h (made-all (marked t words r x) words r xs)
+  where
+    on : Tested
+    on = testAll (marked t words r x) words r xs
+
+    go : (b : Bool) → passes (translate t words r x) ≡ b
+        → passes (cond b (alsoAt (translate t words r x) on)
+        (record { tables = t; places = []; fault = translate t words r x; made = 1 }) .fault) ≡ true
+        → (passes (on .fault) ≡ true → on .made ≡ length xs)
+        → cond b (alsoAt (translate t words r x) on)
+        (record { tables = t; places = []; fault = translate t words r x; made = 1 }) .made ≡ suc (length xs)
+    go true e p rest = ap suc (rest p)
+    go false e p rest = absurd (no-both (sym e ∙ p))
+
 -- ---- the end of a stage
 
 -- the completed file, and the words of the completion stored at the places
-fine-part : (l : ℕ) (c : Core) {g : File} {e : Ending} (m t : List ℕ) (ps : List Translation) (k : Completed)
-    {m' t' : List ℕ}
-    → e ≡ record { file = g; event = Fine } → g ≡ k .file → k .error ≡ false → lent m' t' ≡ storeAll m t ps (k .stores)
-    → endedPart l c e m' t' ≡ finished c m t ps k
+fine-part : (l : ℕ) (c : Core) {g : File} {e : Ending} (all : ℕ) (m t : List ℕ) (ps : List Translation) (k : Completed)
+    {m' t' : List ℕ} → e ≡ record { references = 0; event = Fine; file = g } → g ≡ k .file → k .error ≡ false
+    → lent m' t' ≡ storeAll m t ps (k .stores)
+    → endedPart l c (countedEnding 0 all e) m' t' ≡ counted all (finished c m t ps k)
 unfolding eventPart byPrivilege finished
-fine-part l c m t ps k y h n s =
-    rw (y, h, n) (ap (λ (i : Lent). part (withFile c (k .file)) 0 Nothing (i .memory) (i .tables)) s)
+fine-part l c all m t ps k y h n s =
+    rw (y, h, n)
+    (ap (λ (i : Lent). counted all (part (withFile c (k .file)) 0 Nothing (i .memory) (i .tables))) s)
 
 -- all accesses passed, or one failed
 module _ (c : Core) (m : List ℕ) (k : List ℕ → Completed) (r : Tested) {u : List ℕ} {z : Translation}
     (e : u ≡ r .tables) (q : z ≡ r .fault) where
   tested-passed : {ps : List Translation} → ps ≡ r .places → passes z ≡ true
-      → accessedBy c m k r ≡ finished c m u ps (k (wordsAt m u ps))
+      → accessedBy c m k r ≡ counted (r .made) (finished c m u ps (k (wordsAt m u ps)))
   unfolding accessedBy
   tested-passed h p = rw (e, h) (simp (ap passes (sym q) ∙ p))
 
-  tested-failed : passes z ≡ false → accessedBy c m k r ≡ failed (nextCore c) z m u
+  tested-failed : passes z ≡ false → accessedBy c m k r ≡ counted (r .made) (failed (nextCore c) z m u)
   unfolding accessedBy
   tested-failed p = rw (e, q) (simp (ap passes (sym q) ∙ p))
 
 -- what was found of a request in the file f
 module _ (f : File) (m : List ℕ) {t : List ℕ} (q : Request) (x : Location) {ps : List Translation} {z : Translation}
-    {u : List ℕ} (o : Outcome t (length m) (x .rights) [] (accessesOf q (x .alternate) (x .address)) ps z u) where
+    {made : ℕ} {u : List ℕ}
+    (o : Outcome t (length m) (x .rights) [] (accessesOf q (x .alternate) (x .address)) ps z made u) where
   -- its completion, by the words at the places
   abbrev by : Completed
   by = completionOf q f (x .address) (wordsAt m u ps)
@@ -154,16 +201,25 @@ module _ (f : File) (m : List ℕ) {t : List ℕ} (q : Request) (x : Location) {
   abbrev xs : List Access
   xs = accessesOf q (x .alternate) (x .address)
 
-  module _ (p : passes z ≡ true) {g : File} {e : Ending} (y : e ≡ record { file = g; event = Fine }) where
+  module _ (p : passes z ≡ true) {g : File} {e : Ending}
+      (y : e ≡ record { references = 0; event = Fine; file = g }) where
     -- all accesses passed, and the words vs were stored
     pub stores : {vs m' t' : List ℕ} → storing g vs ≡ by → lent m' t' ≡ storeAll m u ps vs → Served f q x m t e m' t'
-    stores {vs} {m'} {t'} i s l c h =
-        let n : by .error ≡ false = ap (λ (k : Completed). k .error) (sym i) in
-        let v : lent m' t' ≡ storeAll m u ps (by .stores) = s ∙ ap (λ (k : Completed). storeAll m u ps (k .stores)) i in
-        let r : Tested = testAll t (length m) (x .rights) xs in
-        rw (h .file, h .rights)
-        (fine-part l c m u ps by y (ap (λ (k : Completed). k .file) i) n v
-        ∙ sym (tested-passed c m (completionOf q f (x .address)) r (o .tables) (o .failed) (o .passed p) p))
+    stores {vs} {m'} {t'} i s = record {
+      most = rw y (omega arith);
+      part = λ l c h.
+          let n : by .error ≡ false = ap (λ (k : Completed). k .error) (sym i) in
+          let v : lent m' t' ≡ storeAll m u ps (by .stores) =
+          s ∙ ap (λ (k : Completed). storeAll m u ps (k .stores)) i in
+          let r : Tested = testAll t (length m) (x .rights) xs in
+          let all : accessCount q ≡ r .made =
+          count-length q (x .alternate) (x .address)
+          ∙ sym (made-all t (length m) (x .rights) xs (ap passes (sym (o .failed)) ∙ p)) in
+          rw (h .file, h .rights)
+          (fine-part l c (accessCount q) m u ps by y (ap (λ (k : Completed). k .file) i) n v
+          ∙ ap (λ (j : ℕ). counted j (finished c m u ps by)) all
+          ∙ sym (tested-passed c m (completionOf q f (x .address)) r (o .tables) (o .failed) (o .passed p) p));
+    }
 
     -- .. or read
     pub reads : AllRead xs → loads g ≡ by → Served f q x m t e m u
@@ -171,12 +227,26 @@ module _ (f : File) (m : List ℕ) {t : List ℕ} (q : Request) (x : Location) {
         stores i (sym (none-stored ps (rw (o .passed p) (loads-all xs a t (length m) (x .rights))) m u))
 
   -- one failed
-  pub fails : passes z ≡ false → {e : Ending} → e ≡ record { file = f; event = Failed z } → Served f q x m t e m u
+  pub fails : passes z ≡ false → {e : Ending} → e ≡ record { references = made; event = Failed z; file = f }
+      → Served f q x m t e m u
   unfolding eventPart byPrivilege
-  fails p y l c h =
+  fails p y =
       let r : Tested = testAll t (length m) (x .rights) xs in
-      let d = tested-failed c m (completionOf q (next (c .file)) (x .address)) r (o .tables) (o .failed) p in
-      rw (y, h .rights, ← h .file) (sym d)
+      let few : made ≤ 3 =
+      omega (
+        arith,
+        o .count,
+        made-most t (length m) (x .rights) xs,
+        count-length q (x .alternate) (x .address),
+        three-at-most q,
+      ) in
+      record {
+        most = rw y few;
+        part = λ l c h.
+            let d = tested-failed c m (completionOf q (next (c .file)) (x .address)) r (o .tables) (o .failed) p in
+            let n : 0 + made ≡ r .made = zero-add made ∙ o .count ∙ zero-add (r .made) in
+            rw (y, h .rights, ← h .file) (ap (λ (j : ℕ). counted j (failed (nextCore c) z m u)) n ∙ sym d);
+      }
 
 -- the access to read a word found a place that takes none
 pub found-loads :
@@ -187,7 +257,8 @@ found-loads f = rw (f .place) (read-loads _ _ _ _ _)
 -- an access failed, whatever was asked for after it
 module _ {t : List ℕ} {words : ℕ} {r : Rights} {x : Access} {y : Translation} {n : ℕ} {v : List ℕ}
     (f : Found t words r x y n v) (e : n ≡ 0 → ⊥) where
-  pub failed-outcome : {before : List Translation} {xs : List Access} → Outcome t words r before (x ∷ xs) [] y v
+  pub failed-outcome : {before : List Translation} {xs : List Access}
+      → Outcome t words r before (x ∷ xs) [] y (length before + 1) v
   failed-outcome = found-failed f e tt
 
   pub failed-test : passes y ≡ false
@@ -200,10 +271,10 @@ FoundAt k x m t y n v = Found t (length m) (x .rights) (access k (x .alternate) 
 -- the first access of a request failed
 pub access-fails : (f : File) (m : List ℕ) {t : List ℕ} (q : Request) (x : Location) {y : Access} {ys : List Access}
     {z : Translation} {n : ℕ} {v : List ℕ} → y ∷ ys ≡ accessesOf q (x .alternate) (x .address)
-    → Found t (length m) (x .rights) y z n v → (n ≡ 0 → ⊥) → {e : Ending} → e ≡ record { file = f; event = Failed z }
-    → Served f q x m t e m v
+    → Found t (length m) (x .rights) y z n v → (n ≡ 0 → ⊥) → {e : Ending}
+    → e ≡ record { references = 1; event = Failed z; file = f } → Served f q x m t e m v
 access-fails f m {t} q x {z = z} {v = v} e k h y =
-    let o : Outcome t (length m) (x .rights) [] (accessesOf q (x .alternate) (x .address)) [] z v =
+    let o : Outcome t (length m) (x .rights) [] (accessesOf q (x .alternate) (x .address)) [] z 1 v =
     rw (← e) (failed-outcome k h) in
     fails f m q x o (failed-test k h) y
 
@@ -211,7 +282,7 @@ access-fails f m {t} q x {z = z} {v = v} e k h y =
 pub one-passed :
     {t : List ℕ} {words : ℕ} {r : Rights} {x : Access} {y : Translation} {n : ℕ} {v : List ℕ}
     → Found t words r x y n v → n ≡ 0
-    → Outcome t words r [] (x ∷ []) (y ∷ []) NoAccess v
+    → Outcome t words r [] (x ∷ []) (y ∷ []) NoAccess 1 v
 one-passed f e = found-passed f e (done (found-within f, tt))
 
 -- .. and then another
@@ -219,41 +290,43 @@ pub both-passed :
     {t : List ℕ} {words : ℕ} {r : Rights} {x : Access} {y : Translation} {n : ℕ} {v : List ℕ} {x′ : Access}
     {y′ : Translation} {n′ : ℕ}
     {v′ : List ℕ} → Found t words r x y n v → n ≡ 0 → Found v words r x′ y′ n′ v′ → n′ ≡ 0
-    → Outcome t words r [] (x ∷ x′ ∷ []) (y ∷ y′ ∷ []) NoAccess v′
+    → Outcome t words r [] (x ∷ x′ ∷ []) (y ∷ y′ ∷ []) NoAccess 2 v′
 both-passed f e g h = found-passed f e (found-passed g h (done (found-within f, (found-within g, tt))))
 
 -- ---- a word that is changed
 
 module _ (f : File) (k : Change) (x : Exchanged) where
-  pub change-failed : passes (x .fault) ≡ false → afterExchange f k x ≡ record { file = f; event = Failed (x .fault) }
+  pub change-failed : passes (x .fault) ≡ false
+      → afterExchange f k x ≡ record { references = x .made; event = Failed (x .fault); file = f }
   change-failed h = simp h
 
   pub change-done : passes (x .fault) ≡ true
-      → afterExchange f k x ≡ record { file = changeOf k f (x .word) .file; event = Fine }
+      → afterExchange f k x ≡ record { references = 0; event = Fine; file = changeOf k f (x .word) .file }
   change-done h = simp h
 
 -- the ending e of a change, by the number n of its fault
 module _ (k : Change) (x : Exchanged) {n : ℕ} {e : Ending} (q : n ≡ faultOf (x .fault)) where
   -- an access failed
-  pub exchange-fails : (n ≡ 0 → ⊥) → {f : File} → e ≡ record { file = f; event = Failed (x .fault) }
+  pub exchange-fails : (n ≡ 0 → ⊥) → {f : File}
+      → e ≡ record { references = x .made; event = Failed (x .fault); file = f }
       → e ≡ afterExchange f k x
   exchange-fails h {f} y = y ∙ sym (change-failed f k x (fails-other (x .fault) q h))
 
   -- both passed
   pub exchange-passes : n ≡ 0 → (f : File) {g : File} → g ≡ changeOf k f (x .word) .file
-      → e ≡ record { file = g; event = Fine }
+      → e ≡ record { references = 0; event = Fine; file = g }
       → e ≡ afterExchange f k x
   exchange-passes h f i y = rw (y, i) (sym (change-done f k x (passes-zero (x .fault) q h)))
 
 -- ---- two or three words
 
--- the same accesses, and the same fault
+-- the same accesses, fault and number made
 pub renamed :
     {t : List ℕ} {words : ℕ} {r : Rights} {k j : AccessKind} {alternate : Bool} {a : ℕ} (n : ℕ) {ps : List Translation}
-    {y z : Translation} {u : List ℕ}
-    → k ≡ j → y ≡ z → Outcome t words r [] (severalWords k alternate a n) ps z u
-    → Outcome t words r [] (severalWords j alternate a n) ps y u
-renamed n e q o = rw (← e, q) o
+    {y z : Translation} {i made : ℕ} {u : List ℕ}
+    → k ≡ j → y ≡ z → i ≡ made → Outcome t words r [] (severalWords k alternate a n) ps z made u
+    → Outcome t words r [] (severalWords j alternate a n) ps y i u
+renamed n e q h o = rw (← e, q, h) o
 
 module _ {store : Bool} (n : ℕ) where
   pub several-stored : store ≡ true → (g : File) (a : ℕ) (ws : List ℕ)
@@ -274,7 +347,7 @@ pub loaded-three :
     → wordsLoaded n g (wordsAt m t (threePlaces p)) ≡ wordsLoaded n g (wordsAt m t (placesOf p))
 loaded-three m t (Two x y) n g = refl
 loaded-three m t (Three x y z) n g = refl
-loaded-three m t (Fault x) n g = refl
+loaded-three m t (Fault x j) n g = refl
 
 -- STD's third word is not there
 pub three-stored : (m t : List ℕ) (ps : List Translation) (n : ℕ) (g : File)

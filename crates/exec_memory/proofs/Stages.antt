@@ -1,6 +1,7 @@
 -- The stages as the machine's own definition has them: an unprivileged instruction, and the fetch.
 -- Assumes nothing.
-use Prim.Native.Nat.{ℕ, _<_, _≤_}
+use Prim.Native.Nat.{ℕ, _+_, _<_, _≤_}
+use native.Mathlib.Nat.{zero-add}
 use native.Mathlib.Omega.{arith}
 use mathlib.Core.Path.{_≡_, refl, ap, sym, _∙_, subst}
 use mathlib.Core.Bool.{Bool, true, false, cond, not}
@@ -16,6 +17,7 @@ use types.Run.{OneOf, miss}
 use denote.Enum.Declared.{tagOf}
 use Rattle.isa.proofs.instruction.User.{the-type}
 use Rattle.isa.proofs.Tests.{either, decided}
+use Rattle.isa.proofs.Counts.{counted-twice, counted-none}
 use Rattle.isa.specs.Machine.{reg, next, nextCore, withFile, ringOf}
 use Rattle.isa.specs.Address.{access, firstRule, firstAddress, addressRule, indirectAccess, effectiveAddress}
 use Rattle.isa.specs.Address.{byteAddress}
@@ -24,7 +26,7 @@ use Rattle.isa.specs.Pages.{Entry, entryAt, slotOf, somePermit, needed, ringAll
 use Rattle.isa.specs.Pages.{inWindow, translate, Tested, testAll, wordsAt, wordAt, rightsOf, passes, lowered}
 use Rattle.isa.specs.Pages.{loweredPcr}
 use Rattle.isa.specs.Step.{Part, finished, operands, operandsTested, indirectTested, userStage, failed, afterFetch}
-use Rattle.isa.specs.Step.{privileged}
+use Rattle.isa.specs.Step.{privileged, counted}
 use Rattle.isa.specs.declared.access.Access.{Access}
 use Rattle.isa.specs.declared.access.AccessKind.the-variants.{Fetch, Indirect}
 use Rattle.isa.specs.declared.access.Rights.{Rights}
@@ -55,11 +57,11 @@ use Rattle.paging.proofs.Levels.{same-ring}
 use Rattle.paging.specs.Levels.{levelRights}
 use Rattle.paging.specs.Outcome.{Outcome}
 use Rattle.memory_words.specs.declared.location.Location.{Location}
-use Rattle.event.specs.Events.{eventPart, endingOf, byPrivilege, endedPart}
+use Rattle.event.specs.Events.{eventPart, isFine, endingOf, countedEnding, byPrivilege, endedPart}
 use Rattle.event.specs.declared.Ending.{Ending}
 use Rattle.event.specs.declared.Event.{Event}
 use Rattle.event.specs.declared.Event.the-variants.{Fine, Error, Failed as Faulted}
-use Rattle.exec_memory.specs.Served.{Executing, accessesOf, accessedBy, requested, Served}
+use Rattle.exec_memory.specs.Served.{Executing, accessesOf, accessCount, accessedBy, requested, Served}
 use Rattle.exec_memory.proofs.RequestLaws.{request-serves}
 use Rattle.exec_memory.specs.Stages.{ExecutingAt, ByIndirect, Addressed, UserStage, byteLocation, addressed}
 use Rattle.exec_memory.specs.Stages.{afterIndirectWord, levelCore, ringFrom, ringAfter}
@@ -89,16 +91,17 @@ requested-is c m t u i q alternate a e h =
 word-passed :
     (c : Core) (m : List ℕ) (o : MemoryOp) (md : Mode) (k : Tested) (x : Translation) (v : List ℕ) (b : Bool) (e : ℕ)
     → v ≡ k .tables → x ∷ [] ≡ k .places → NoAccess ≡ k .fault → b ≡ addressRule md
-    → e ≡ afterIndirect md (next (c .file)) (wordAt m v x)
-    → addressed c m v o (At b e) ≡ afterIndirectWord c m o md k
+    → e ≡ afterIndirect md (next (c .file)) (wordAt m v x) → k .made ≡ 1
+    → addressed c m v o (At b e 1) ≡ afterIndirectWord c m o md k
 unfolding addressed afterIndirectWord
-word-passed c m o md k x v b e t p n q h = simp (q, h, t, ← p, ← n)
+word-passed c m o md k x v b e t p n q h j = simp (q, h, t, ← p, ← n, j)
 
 word-failed :
     (c : Core) (m : List ℕ) (o : MemoryOp) (md : Mode) (k : Tested) (x : Translation) (v : List ℕ)
-    → v ≡ k .tables → x ≡ k .fault → passes x ≡ false → addressed c m v o (Failed x) ≡ afterIndirectWord c m o md k
+    → v ≡ k .tables → x ≡ k .fault → passes x ≡ false → k .made ≡ 1
+    → addressed c m v o (Failed x) ≡ afterIndirectWord c m o md k
 unfolding addressed afterIndirectWord
-word-failed c m o md k x v t n h = simp (ap passes (sym n) ∙ h, t, n)
+word-failed c m o md k x v t n h j = simp (ap passes (sym n) ∙ h, t, n, j)
 
 module _ (g : File) (m : List ℕ) (md : Mode) {t : List ℕ} {r : Rights} {b : Bool} {a : ℕ} {x : Translation} {n : ℕ}
     {v : List ℕ} (q : b ≡ firstRule md) (f : Found t (length m) r (access Indirect b a) x n v) where
@@ -112,18 +115,26 @@ module _ (g : File) (m : List ℕ) (md : Mode) {t : List ℕ} {r : Rights} {b : 
       ∙ ap (λ (h : Bool). afterIndirectWord c m o md (testAll t (length m) (rightsOf c) (access Indirect h a ∷ []))) q
 
   pub indirect-passed : (i : Bool) (e : ℕ) → n ≡ 0 → i ≡ addressRule md → e ≡ afterIndirect md g (wordAt m v x)
-      → ByIndirect g r md a m t (At i e) v
-  indirect-passed i e z j h c o s =
-      let k : Outcome t (length m) r [] (access Indirect b a ∷ []) (x ∷ []) NoAccess v =
-      found-passed f z (done (found-within f, tt)) in
-      let w : e ≡ afterIndirect md (next (c .file)) (wordAt m v x) =
-      h ∙ ap (λ (y : File). afterIndirect md y (wordAt m v x)) (sym (s .file)) in
-      word-passed c m o md _ x v i e (k .tables) (k .passed refl) (k .failed) j w ∙ judged-in c o s
+      → ByIndirect g r md a m t (At i e 1) v
+  indirect-passed i e z j h =
+      let k : Outcome t (length m) r [] (access Indirect b a ∷ []) (x ∷ []) NoAccess 1 v =
+      found-passed f z (done (found-within f, tt)) in (
+        omega arith,
+        λ c o s.
+            let w : e ≡ afterIndirect md (next (c .file)) (wordAt m v x) =
+            h ∙ ap (λ (y : File). afterIndirect md y (wordAt m v x)) (sym (s .file)) in
+            let once : testAll t (length m) r (access Indirect b a ∷ []) .made ≡ 1 = omega (arith, k .count) in
+            word-passed c m o md _ x v i e (k .tables) (k .passed refl) (k .failed) j w once ∙ judged-in c o s,
+      )
 
   pub indirect-failed : (n ≡ 0 → ⊥) → ByIndirect g r md a m t (Failed x) v
-  indirect-failed z c o s =
-      let k : Outcome t (length m) r [] (access Indirect b a ∷ []) [] x v = found-failed f z tt in
-      word-failed c m o md _ x v (k .tables) (k .failed) (fails-other x (f .fault) z) ∙ judged-in c o s
+  indirect-failed z =
+      let k : Outcome t (length m) r [] (access Indirect b a ∷ []) [] x 1 v = found-failed f z tt in (
+        omega arith,
+        λ c o s.
+            let once : testAll t (length m) r (access Indirect b a ∷ []) .made ≡ 1 = omega (arith, k .count) in
+            word-failed c m o md _ x v (k .tables) (k .failed) (fails-other x (f .fault) z) once ∙ judged-in c o s,
+      )
 
 -- ---- the effective address
 
@@ -157,7 +168,7 @@ after-word :
 unfolding indirectTested afterIndirectWord
 after-word c m o md d k h =
     let i = getD (wordsAt m (k .tables) (k .places)) 0 0 in
-    ap (λ (p : Part). cond (passes (k .fault)) p (failed (nextCore c) (k .fault) m (k .tables)))
+    ap (λ (p : Part). counted (k .made) (cond (passes (k .fault)) p (failed (nextCore c) (k .fault) m (k .tables))))
     (at-address c m (k .tables) o md d i (afterIndirect md (next (c .file)) i)
     (sym (simp h at (effective-address md d (c .file) i))))
 
@@ -177,7 +188,9 @@ indirect-stage c m t o md d h =
 no-indirect : (c : Core) (m t : List ℕ) (u : User) → indirectRequest u (c .file) ≡ []
     → operands c m t u 0 ≡ userStage c m t u
 unfolding userStage indirectTested
-no-indirect c m t u h = simp h
+no-indirect c m t u h =
+    sym (counted-none (operands c m t u 0))
+    ∙ ap (λ (xs : List Access). indirectTested c m u (testAll t (length m) (rightsOf c) xs)) (sym h)
 
 direct-stage :
     (c : Core) (m t : List ℕ) (o : MemoryOp) (md : Mode) (d : ℤ) → hasIndirect md ≡ false
@@ -191,40 +204,52 @@ direct-stage c m t o md d h =
 module _ (g : File) (m t : List ℕ) (a : ℕ) (r : Rights) (md : Mode) (d : ℤ) (x : ℕ) (p : x ≡ firstAt md d g a) where
   pub addressed-indirect : (e : Effective) (v : List ℕ) → hasIndirect md ≡ true → ByIndirect g r md x m t e v
       → Addressed g a r md d m t e v
-  addressed-indirect e v h f c o s =
-      f c o (s .executing)
-      ∙ ap
-      (λ (y : ℕ). afterIndirectWord c m o md
-      (testAll t (length m) (rightsOf c) (access Indirect (firstRule md) y ∷ [])))
-      (p ∙ address-at md d s)
-      ∙ indirect-stage c m t o md d h
+  addressed-indirect e v h f = (
+    f .0,
+    λ c o s. f .1 c o (s .executing)
+        ∙ ap
+        (λ (y : ℕ). afterIndirectWord c m o md
+        (testAll t (length m) (rightsOf c) (access Indirect (firstRule md) y ∷ [])))
+        (p ∙ address-at md d s)
+        ∙ indirect-stage c m t o md d h,
+  )
 
-  pub addressed-direct : (b : Bool) → hasIndirect md ≡ false → b ≡ addressRule md → Addressed g a r md d m t (At b x) t
+  pub addressed-direct : (b : Bool) → hasIndirect md ≡ false → b ≡ addressRule md
+      → Addressed g a r md d m t (At b x 0) t
   unfolding addressed
-  addressed-direct b h q c o s =
-      ap (λ (y : Bool). requested c m t (requestOf o (next (c .file))) y x) q
-      ∙ ap (requested c m t (requestOf o (next (c .file))) (addressRule md)) (p ∙ address-at md d s)
-      ∙ direct-stage c m t o md d h
+  addressed-direct b h q = (
+    omega arith,
+    λ c o s.
+        let asked = requestOf o (next (c .file)) in
+        counted-none (requested c m t asked b x)
+        ∙ ap (λ (y : Bool). requested c m t asked y x) q
+        ∙ ap (requested c m t asked (addressRule md)) (p ∙ address-at md d s)
+        ∙ direct-stage c m t o md d h,
+  )
 
 -- LBYT and SBYT, whose address P has no part in
 module _ (g : File) (m t : List ℕ) (at : ℕ) (r : Rights) {x : Location} (p : x ≡ byteLocation r g) (z : Ending)
-    (m′ t′ : List ℕ) {u : User} where
+    (m′ t′ : List ℕ) {u : User} {w : Ending} where
   byte-served : (v : User) (q : Request) → u ≡ v
       → ((f : File) → accessesOf q true (byteAddress f) ≡ request v f 0)
       → ((f : File) (vs : List ℕ) → completionOf q (next f) (byteAddress f) vs ≡ complete v f 0 vs)
-      → ((f : File) → indirectRequest v f ≡ []) → Served g q x m t z m′ t′ → UserStage g at r u m t z m′ t′
-  byte-served v q e i h n f l c s =
+      → ((f : File) → indirectRequest v f ≡ []) → Served g q x m t z m′ t′ → w ≡ countedEnding 0 (accessCount q) z
+      → UserStage g at r u m t w m′ t′
+  byte-served v q e i h n f j l c s =
       let b = c .file in
-      subst (λ (y : Location). Served g q y m t z m′ t′) p f l c (s .executing)
+      ap (λ (y : Ending). endedPart l c y m′ t′) j
+      ∙ subst (λ (y : Location). Served g q y m t z m′ t′) p f .part l c (s .executing)
       ∙ ap (λ (y : File). requested c m t q true (byteAddress y)) (sym (s .executing .file))
       ∙ requested-is c m t v 0 q true (byteAddress b) (i b) (h b)
       ∙ no-indirect c m t v (n b)
       ∙ ap (userStage c m t) (sym e)
 
-  pub byte-read : u ≡ LoadByte → Served g (Read Byte) x m t z m′ t′ → UserStage g at r u m t z m′ t′
+  pub byte-read : u ≡ LoadByte → Served g (Read Byte) x m t z m′ t′ → w ≡ countedEnding 0 1 z
+      → UserStage g at r u m t w m′ t′
   byte-read e = byte-served LoadByte (Read Byte) e (λ f. refl) (λ f vs. refl) (λ f. refl)
 
-  pub byte-put : u ≡ StoreByte → Served g (Update PutByte) x m t z m′ t′ → UserStage g at r u m t z m′ t′
+  pub byte-put : u ≡ StoreByte → Served g (Update PutByte) x m t z m′ t′ → w ≡ countedEnding 0 2 z
+      → UserStage g at r u m t w m′ t′
   byte-put e = byte-served StoreByte (Update PutByte) e (λ f. refl) (λ f vs. refl) (λ f. refl)
 
 -- the numbers of the variants of an unprivileged instruction but for one
@@ -241,19 +266,22 @@ notStoreByte = 0 ∷ 1 ∷ 2 ∷ 3 ∷ 4 ∷ 5 ∷ 6 ∷ 7 ∷ 8 ∷ 9 ∷ 10 �
 module _ (c : Core) (m t : List ℕ) where
   registers-alone : (u : User) → OneOf notMemory (tagOf the-type u) → OneOf notLoadByte (tagOf the-type u)
       → OneOf notStoreByte (tagOf the-type u)
-      → finished c m t [] (registerCompletion u (next (c .file)) (reg (c .file) P)) ≡ userStage c m t u
+      → counted 0 (counted 0 (finished c m t [] (registerCompletion u (next (c .file)) (reg (c .file) P))))
+      ≡ userStage c m t u
   unfolding userStage indirectTested operands operandsTested
   registers-alone (Memory o md d) h i j = absurd (miss notMemory 0 tt h)
   registers-alone (Jump k d) h i j = refl
   registers-alone (Skip q s d) h i j = refl
   registers-alone (Logic o cld cm1 s d) h i j = refl
   registers-alone (RegisterAdd k cld cm1 s d) h i j =
-      ap (finished c m t []) (register-completion (RegisterAdd k cld cm1 s d) (c .file) 0 [] tt)
+      ap (λ (k : Completed). counted 0 (counted 0 (finished c m t [] k)))
+      (register-completion (RegisterAdd k cld cm1 s d) (c .file) 0 [] tt)
   registers-alone NoOperation h i j = refl
   registers-alone (Shift k q n) h i j = refl
   registers-alone (SetArgument q n) h i j = refl
   registers-alone (AddArgument q n) h i j =
-      ap (finished c m t []) (register-completion (AddArgument q n) (c .file) 0 [] tt)
+      ap (λ (k : Completed). counted 0 (counted 0 (finished c m t [] k)))
+      (register-completion (AddArgument q n) (c .file) 0 [] tt)
   registers-alone (Bit o n q) h i j = refl
   registers-alone LoadByte h i j = absurd (miss notLoadByte 10 tt i)
   registers-alone StoreByte h i j = absurd (miss notStoreByte 11 tt j)
@@ -264,23 +292,40 @@ module _ (c : Core) (m t : List ℕ) where
 -- ---- an ending
 
 -- the file is left as it is
-pub file-left : {c : Core} {f : File} {r : Rights} (l : ℕ) (m t : List ℕ) {z : Ending} {e : Event} → Executing c f r
-    → z ≡ record { file = f; event = e }
-    → endedPart l c z m t ≡ eventPart l (nextCore c) m t (byPrivilege (privileged c) e)
-file-left {c} l m t {e = e} s q =
+pub file-left : {c : Core} {f : File} {r : Rights} (l : ℕ) (m t : List ℕ) {z : Ending} {n : ℕ} {e : Event}
+    → Executing c f r → z ≡ record { references = n; event = e; file = f }
+    → endedPart l c z m t ≡ counted n (eventPart l (nextCore c) m t (byPrivilege (privileged c) e))
+file-left {c} l m t {n = n} {e = e} s q =
     ap (λ (y : Ending). endedPart l c y m t) q
-    ∙ ap (λ (g : File). eventPart l (withFile c g) m t (byPrivilege (privileged c) e)) (sym (s .file))
+    ∙ ap (λ (g : File). counted n (eventPart l (withFile c g) m t (byPrivilege (privileged c) e))) (sym (s .file))
+
+-- the references before a request, and its own
+counted-ending : (l : ℕ) (c : Core) (m t : List ℕ) (n k : ℕ) (e : Ending)
+    → endedPart l c (countedEnding n (n + k) e) m t ≡ counted n (endedPart l c (countedEnding 0 k e) m t)
+counted-ending l c m t n k e =
+    let left = eventPart l (withFile c (e .file)) m t (byPrivilege (privileged c) (e .event)) in
+    ap (λ (j : ℕ). counted j left) (sum (isFine (e .event)))
+    ∙ sym (counted-twice n (cond (isFine (e .event)) k (0 + e .references)) left)
+  where
+    sum : (b : Bool) → cond b (n + k) (n + e .references) ≡ n + cond b k (0 + e .references)
+    sum true = refl
+    sum false = ap (n +_) (sym (zero-add (e .references)))
 
 -- an instruction that stores nothing ends with the error interrupt or well
 completed-part : (l : ℕ) (c : Core) (m t : List ℕ) (d : Completed)
     → endedPart l c (endingOf d) m t ≡ finished c m t [] d
 unfolding eventPart byPrivilege finished
-completed-part l c m t d = go (d .error)
+completed-part l c m t d =
+    counted-none (eventPart l (withFile c (d .file)) m t (byPrivilege (privileged c) (cond (d .error) Error Fine)))
+    ∙ go (d .error)
   where
     go : (b : Bool) → eventPart l (withFile c (d .file)) m t (byPrivilege (privileged c) (cond b Error Fine))
         ≡ finished c m t [] (record { file = d .file; stores = d .stores; error = b })
     go true = refl
     go false = refl
+
+none-twice : (p : Part) → counted 0 (counted 0 p) ≡ p
+none-twice p = counted-none (counted 0 p) ∙ counted-none p
 
 -- what the code found of an instruction that works on the registers alone
 pub register-served : (f : File) (m t : List ℕ) (a : ℕ) (r : Rights) (u : User) (z : Ending)
@@ -291,25 +336,28 @@ register-served f m t a r u z h i j q l c s =
     ∙ completed-part l c m t (registerCompletion u f a)
     ∙ ap (λ (y : File). finished c m t [] (registerCompletion u y a)) (sym (s .executing .file))
     ∙ ap (λ (y : ℕ). finished c m t [] (registerCompletion u (next (c .file)) y)) (sym (s .address))
+    ∙ sym (none-twice (finished c m t [] (registerCompletion u (next (c .file)) (reg (c .file) P))))
     ∙ registers-alone c m t u h i j
 
 -- a memory operation at its effective address, or where the access for the indirect word failed
 module _ (f : File) (m t : List ℕ) (a : ℕ) (r : Rights) (o : MemoryOp) (md : Mode) (d : ℤ) (e : Effective) (v : List ℕ)
     (h : Addressed f a r md d m t e v) (z : Ending) where
-  pub memory-at : (b : Bool) (x : ℕ) (m′ t′ : List ℕ) {q : Request} → e ≡ At b x → q ≡ requestOf o f
-      → Served f q (record { rights = r; alternate = b; address = x }) m v z m′ t′
-      → UserStage f a r (Memory o md d) m t z m′ t′
+  pub memory-at : (b : Bool) (x n : ℕ) (w : Ending) (m′ t′ : List ℕ) {q : Request} → e ≡ At b x n → q ≡ requestOf o f
+      → Served f q (record { rights = r; alternate = b; address = x }) m v w m′ t′
+      → z ≡ countedEnding n (n + accessCount q) w → UserStage f a r (Memory o md d) m t z m′ t′
   unfolding addressed
-  memory-at b x m′ t′ i p k l c s =
-      k l c (s .executing)
-      ∙ ap (λ (q : Request). requested c m v q b x) (p ∙ ap (requestOf o) (sym (s .executing .file)))
+  memory-at b x n w m′ t′ {q} i p k j l c s =
+      ap (λ (y : Ending). endedPart l c y m′ t′) j
+      ∙ counted-ending l c m′ t′ n (accessCount q) w
+      ∙ ap (counted n) (k .part l c (s .executing))
+      ∙ ap (λ (q : Request). counted n (requested c m v q b x)) (p ∙ ap (requestOf o) (sym (s .executing .file)))
       ∙ ap (addressed c m v o) (sym i)
-      ∙ h c o s
+      ∙ h .1 c o s
 
-  pub memory-failed : (x : Translation) → e ≡ Failed x → z ≡ record { file = f; event = Faulted x }
+  pub memory-failed : (x : Translation) → e ≡ Failed x → z ≡ record { references = 1; event = Faulted x; file = f }
       → UserStage f a r (Memory o md d) m t z m v
   unfolding addressed eventPart byPrivilege
-  memory-failed x q n l c s = file-left l m v (s .executing) n ∙ ap (addressed c m v o) (sym q) ∙ h c o s
+  memory-failed x q n l c s = file-left l m v (s .executing) n ∙ ap (addressed c m v o) (sym q) ∙ h .1 c o s
 
 -- ---- the fetch
 

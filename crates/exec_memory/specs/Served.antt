@@ -1,13 +1,14 @@
 -- A request at an operand, by what the code has in hand: the registers with P one further, and the rights.
-use Prim.Native.Nat.{ℕ}
+use Prim.Native.Nat.{ℕ, _≤_}
 use mathlib.Core.Path.{_≡_}
 use mathlib.Core.Bool.{Bool, cond}
 use mathlib.Core.List.{List, []}
 use lib.ListN.{length}
+use lib.Dec.{eqb}
 use Rattle.isa.specs.Machine.{next, nextCore}
 use Rattle.isa.specs.Instructions.{Completed, oneWord, readAndWrite}
 use Rattle.isa.specs.Pages.{Tested, testAll, passes, wordsAt, rightsOf}
-use Rattle.isa.specs.Step.{Part, failed, finished}
+use Rattle.isa.specs.Step.{Part, counted, failed, finished}
 use Rattle.isa.specs.declared.access.Access.{Access}
 use Rattle.isa.specs.declared.access.AccessKind.{AccessKind}
 use Rattle.isa.specs.declared.access.AccessKind.the-variants as kinds
@@ -20,7 +21,7 @@ use Rattle.exec_address.specs.declared.request.Request.the-variants.{Jump, Link
 use Rattle.exec_address.specs.declared.request.Change.{Change}
 use Rattle.memory_words.specs.Accesses.{severalWords}
 use Rattle.memory_words.specs.declared.location.Location.{Location}
-use Rattle.event.specs.Events.{endedPart}
+use Rattle.event.specs.Events.{endedPart, countedEnding}
 use Rattle.event.specs.declared.Ending.{Ending}
 use Rattle.event.specs.declared.Event.the-variants.{Fine, Failed}
 use Rattle.exec_memory.specs.declared.update.Exchanged.{Exchanged}
@@ -43,25 +44,37 @@ accessesOf (Write w) alternate a = oneWord kinds.Write alternate a
 accessesOf (Several store n) alternate a = severalWords (severalKind store) alternate a n
 accessesOf (Update k) alternate a = readAndWrite alternate a
 
+-- .. and how many they are
+abbrev pub accessCount : Request → ℕ
+accessCount Jump = 0
+accessCount Link = 0
+accessCount (Read k) = 1
+accessCount (Write w) = 1
+accessCount (Several store n) = cond (eqb n 2) 2 3
+accessCount (Update k) = 2
+
 -- accesses were tested; k completes by the words read
 unfoldable pub accessedBy : Core → List ℕ → (List ℕ → Completed) → Tested → Part
 accessedBy c m k r =
-    cond (passes (r .fault)) (finished c m (r .tables) (r .places) (k (wordsAt m (r .tables) (r .places))))
-    (failed (nextCore c) (r .fault) m (r .tables))
+    counted (r .made)
+    (cond (passes (r .fault)) (finished c m (r .tables) (r .places) (k (wordsAt m (r .tables) (r .places))))
+    (failed (nextCore c) (r .fault) m (r .tables)))
 
 -- a request at the address a
 abbrev pub requested : Core → List ℕ → List ℕ → Request → Bool → ℕ → Part
 requested c m t q alternate a =
     accessedBy c m (completionOf q (next (c .file)) a) (testAll t (length m) (rightsOf c) (accessesOf q alternate a))
 
--- the ending e is what is answered for a request in every core that executes it
-abbrev pub Served : File → Request → Location → List ℕ → List ℕ → Ending → List ℕ → List ℕ → Type 0
-Served f q x m t e m' t' =
-    (l : ℕ) (c : Core) → Executing c f (x .rights)
-    → endedPart l c e m' t' ≡ requested c m t q (x .alternate) (x .address)
+-- The ending e, with all accesses counted where none failed, is what is answered for a request in every core that
+-- executes it. Of itself e tells how many were made up to a failed one.
+pub record Served (f : File) (q : Request) (x : Location) (m t : List ℕ) (e : Ending) (m' t' : List ℕ) : Type 0 where
+  pub most : e .references ≤ 3
+  pub part :
+      (l : ℕ) (c : Core) → Executing c f (x .rights)
+      → endedPart l c (countedEnding 0 (accessCount q) e) m' t' ≡ requested c m t q (x .alternate) (x .address)
 
 -- the end of a change of a word: the instruction goes on, or an access failed
 abbrev pub afterExchange : File → Change → Exchanged → Ending
 afterExchange f k x =
-    cond (passes (x .fault)) (record { file = changeOf k f (x .word) .file; event = Fine })
-    (record { file = f; event = Failed (x .fault) })
+    cond (passes (x .fault)) (record { references = 0; event = Fine; file = changeOf k f (x .word) .file })
+    (record { references = x .made; event = Failed (x .fault); file = f })

@@ -1,6 +1,6 @@
 -- The stages of an unprivileged instruction by what the code has in hand: the registers with P one further, the rights,
 -- and the instruction's own address.
-use Prim.Native.Nat.{ℕ}
+use Prim.Native.Nat.{ℕ, _≤_}
 use mathlib.Core.Path.{_≡_}
 use mathlib.Core.Bool.{true, cond}
 use mathlib.Core.List.{List, [], _∷_}
@@ -9,7 +9,7 @@ use lib.IntN.{ℤ}
 use Rattle.isa.specs.Machine.{reg, next, nextCore}
 use Rattle.isa.specs.Address.{access, firstRule, addressRule, byteAddress}
 use Rattle.isa.specs.Pages.{Tested, testAll, passes, wordsAt, rightsOf}
-use Rattle.isa.specs.Step.{Part, failed, userStage}
+use Rattle.isa.specs.Step.{Part, counted, failed, userStage}
 use Rattle.isa.specs.declared.access.AccessKind.the-variants.{Indirect}
 use Rattle.isa.specs.declared.access.Rights.{Rights}
 use Rattle.isa.specs.declared.access.Translation.{Translation}
@@ -41,27 +41,35 @@ pub record ExecutingAt (c : Core) (f : File) (a : ℕ) (r : Rights) : Type 0 whe
 
 -- an operation goes on at its effective address, or the access for the indirect word failed
 unfoldable pub addressed : Core → List ℕ → List ℕ → MemoryOp → Effective → Part
-addressed c m t o (At alternate a) = requested c m t (requestOf o (next (c .file))) alternate a
-addressed c m t o (Failed x) = failed (nextCore c) x m t
+addressed c m t o (At alternate a n) = counted n (requested c m t (requestOf o (next (c .file))) alternate a)
+addressed c m t o (Failed x) = counted 1 (failed (nextCore c) x m t)
+
+-- "Finding an effective address shall also tell how many words it read (0 or 1)"; a failed access is for one
+abbrev pub wordsRead : Effective → ℕ
+wordsRead (At alternate a n) = n
+wordsRead (Failed x) = 1
 
 -- as the stage up to it answers, in every core that executes it
 abbrev pub Addressed : File → ℕ → Rights → Mode → ℤ → List ℕ → List ℕ → Effective → List ℕ → Type 0
 Addressed f at r md d m t e t' =
-    (c : Core) (o : MemoryOp) → ExecutingAt c f at r → addressed c m t' o e ≡ userStage c m t (Memory o md d)
+    (wordsRead e ≤ 1)
+    × ((c : Core) (o : MemoryOp) → ExecutingAt c f at r → addressed c m t' o e ≡ userStage c m t (Memory o md d))
 
 -- the access for the indirect word was tested
 unfoldable pub afterIndirectWord : Core → List ℕ → MemoryOp → Mode → Tested → Part
 afterIndirectWord c m o md r =
     let a = afterIndirect md (next (c .file)) (getD (wordsAt m (r .tables) (r .places)) 0 0) in
-    cond (passes (r .fault)) (requested c m (r .tables) (requestOf o (next (c .file))) (addressRule md) a)
-    (failed (nextCore c) (r .fault) m (r .tables))
+    counted (r .made)
+    (cond (passes (r .fault)) (requested c m (r .tables) (requestOf o (next (c .file))) (addressRule md) a)
+    (failed (nextCore c) (r .fault) m (r .tables)))
 
 -- .. and where the mode has an indirect word, at the address a
 abbrev pub ByIndirect : File → Rights → Mode → ℕ → List ℕ → List ℕ → Effective → List ℕ → Type 0
 ByIndirect f r md a m t e t' =
-    (c : Core) (o : MemoryOp) → Executing c f r
+    (wordsRead e ≤ 1)
+    × ((c : Core) (o : MemoryOp) → Executing c f r
     → addressed c m t' o e
-    ≡ afterIndirectWord c m o md (testAll t (length m) (rightsOf c) (access Indirect (firstRule md) a ∷ []))
+    ≡ afterIndirectWord c m o md (testAll t (length m) (rightsOf c) (access Indirect (firstRule md) a ∷ [])))
 
 -- ---- instructions
 

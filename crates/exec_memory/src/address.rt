@@ -18,9 +18,10 @@ use paging::place::fault_of;
 use paging::place::word_at;
 use paging::translation::translate;
 
-// The address, and whether it goes by the alternate rule; or the failed access for the indirect word.
+// Whether the address goes by the alternate rule, the address, and how many words were read to find it, 0 or 1; or the
+// failed access for the indirect word.
 pub enum Effective {
-    At(bool, u16),
+    At(bool, u16, u32),
     Failed(Translation),
 }
 
@@ -37,6 +38,7 @@ fn by_indirect(f: File, r: Rights, mem: &[u16], tables: &mut [u16], m: Mode, a: 
     Effective::At(
         address_rule(m),
         after_indirect(m, f, word_at(mem, tables, x)),
+        1,
     )
 }
 
@@ -58,5 +60,5 @@ pub(crate) fn address_of(
     if has_indirect(m) {
         return by_indirect(f, r, mem, tables, m, a);
     }
-    Effective::At(address_rule(m), a)
+    Effective::At(address_rule(m), a, 0)
 }

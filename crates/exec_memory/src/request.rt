@@ -4,7 +4,7 @@ ghost use Rattle.isa.specs.Machine.{tableWords};
 ghost use mathlib.Core.Path.{_≡_};
 ghost use Prim.Native.Nat.{_<_};
 ghost use lib.ListN.{length};
-ghost use Rattle.exec_memory.specs.Served.{Served};
+ghost use Rattle.exec_memory.specs.Served.{Served, accessCount};
 use crate::several::words;
 use crate::single::read_word;
 use crate::single::write_word;
@@ -16,6 +16,26 @@ use isa::machine::File;
 use isa::machine::Register;
 use memory_words::location::Location;
 
+// How many accesses a request has: of several words two, or else three.
+pub fn accesses_in(q: Request) -> u32
+    ensures { λ n. ⌜ n ≡ accessCount q ⌝ }
+{
+    match q {
+        Request::Jump => 0,
+        Request::Link => 0,
+        Request::Read(_) => 1,
+        Request::Write(_) => 1,
+        Request::Several(_, n) => {
+            if n == 2 {
+                return 2;
+            }
+            3
+        }
+        Request::Update(_) => 2,
+    }
+}
+
+// The ending tells references only where an access failed: else they are as many as the request has.
 pub fn serve(f: File, mem: &mut [u16], tables: &mut [u16], x: Location, q: Request) -> Ending
     requires { ⌜ (x .rights .normal < 4) × (x .rights .alternate < 4) ⌝ }
     requires { ⌜ length (now tables) ≡ tableWords ⌝ }

@@ -6,15 +6,15 @@ ghost use lib.ListN.{length};
 ghost use Rattle.exec_address.specs.declared.request.Request.the-variants.{Several};
 ghost use Rattle.exec_memory.specs.Served.{Served, severalKind};
 use event::Ending;
-use event::Event;
+use event::failed;
 use event::fine;
-use event::with_event;
 use exec_address::load::loaded_more;
 use exec_address::store::stored_more;
 use isa::access::AccessKind;
 use isa::machine::File;
 use memory_words::location::Location;
 use memory_words::outcome::fault_in;
+use memory_words::outcome::made_in;
 use memory_words::test::several;
 use memory_words::words::read_all;
 use memory_words::words::store_all;
@@ -45,8 +45,9 @@ pub(crate) fn words(
 {
     let p = several(tables, mem.len(), x, kind_of(store), n);
     let a = fault_in(p);
+    let made = made_in(p);
     if fault_of(a) != 0 {
-        return with_event(f, Event::Failed(a));
+        return failed(f, a, made);
     }
     if store {
         store_all(mem, tables, p, stored_more(n, f));

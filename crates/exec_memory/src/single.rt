@@ -6,9 +6,8 @@ ghost use lib.ListN.{length};
 ghost use Rattle.exec_address.specs.declared.request.Request.the-variants.{Read, Write};
 ghost use Rattle.exec_memory.specs.Served.{Served};
 use event::Ending;
-use event::Event;
+use event::failed;
 use event::fine;
-use event::with_event;
 use exec_address::load::loaded;
 use exec_address::request::Reading;
 use isa::access::AccessKind;
@@ -35,7 +34,7 @@ pub fn read_word(f: File, mem: &[u16], tables: &mut [u16], x: Location, k: Readi
         x.address,
     );
     if fault_of(a) != 0 {
-        return with_event(f, Event::Failed(a));
+        return failed(f, a, 1);
     }
     fine(loaded(k, f, word_at(mem, tables, a)))
 }
@@ -62,7 +61,7 @@ pub(crate) fn write_word(
         x.address,
     );
     if fault_of(a) != 0 {
-        return with_event(f, Event::Failed(a));
+        return failed(f, a, 1);
     }
     store_at(mem, tables, a, w);
     fine(f)

@@ -7,9 +7,8 @@ ghost use Rattle.exec_address.specs.declared.request.Request.the-variants.{Upda
 ghost use Rattle.exec_address.specs.declared.request.Change.the-variants.{PutByte};
 ghost use Rattle.exec_memory.specs.Served.{Served, afterExchange};
 use event::Ending;
-use event::Event;
+use event::failed;
 use event::fine;
-use event::with_event;
 use exec_address::change::after_change;
 use exec_address::change::changed;
 use exec_address::request::Change;
@@ -22,10 +21,11 @@ use paging::place::store_at;
 use paging::place::word_at;
 use paging::translation::translate;
 
-// The word that was read, or the first access that failed.
+// The word that was read, or the first access that failed; and how many accesses were made.
 pub struct Exchanged {
     pub word: u16,
     pub fault: Translation,
+    pub made: u32,
 }
 
 // Both accesses are tested, and the changed word is stored.
@@ -48,6 +48,7 @@ fn exchange(f: File, mem: &mut [u16], tables: &mut [u16], x: Location, k: Change
         return Exchanged {
             word: 0,
             fault: from,
+            made: 1,
         };
     }
     let to = translate(
@@ -59,13 +60,18 @@ fn exchange(f: File, mem: &mut [u16], tables: &mut [u16], x: Location, k: Change
         x.address,
     );
     if fault_of(to) != 0 {
-        return Exchanged { word: 0, fault: to };
+        return Exchanged {
+            word: 0,
+            fault: to,
+            made: 2,
+        };
     }
     let w = word_at(mem, tables, from);
     store_at(mem, tables, to, changed(k, f, w));
     Exchanged {
         word: w,
         fault: Translation::NoAccess,
+        made: 2,
     }
 }
 
@@ -78,7 +84,7 @@ pub(crate) fn update(f: File, mem: &mut [u16], tables: &mut [u16], x: Location, 
     let e = exchange(f, mem, tables, x, k);
     let a = e.fault;
     if fault_of(a) != 0 {
-        return with_event(f, Event::Failed(a));
+        return failed(f, a, e.made);
     }
     fine(after_change(k, f, e.word))
 }
@@ -93,7 +99,7 @@ pub fn put_byte(f: File, mem: &mut [u16], tables: &mut [u16], x: Location) -> En
     let e = exchange(f, mem, tables, x, Change::PutByte);
     let a = e.fault;
     if fault_of(a) != 0 {
-        return with_event(f, Event::Failed(a));
+        return failed(f, a, e.made);
     }
     fine(f)
 }

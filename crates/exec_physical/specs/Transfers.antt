@@ -7,6 +7,7 @@ use lib.ListN.{length}
 use Rattle.isa.specs.Machine.{wordRange}
 use Rattle.isa.specs.Pages.{passes, wordAt, wordsOf, storeAll, lent}
 use Rattle.isa.specs.Physical.{transferAddress, firstPlace, secondPlace, firstFault, transferStores, transferred}
+use Rattle.isa.specs.Physical.{transferMade}
 use Rattle.isa.specs.declared.access.Translation.{Translation}
 use Rattle.isa.specs.declared.instruction.Transfer.{Transfer}
 use Rattle.isa.specs.declared.machine.File.{File}
@@ -24,7 +25,7 @@ abbrev pub nextPlaceOf : File → Bool → Transfer → ℕ → List ℕ → Tra
 nextPlaceOf f form o d m = secondPlace form (length m) o (transferAddress f d)
 
 -- r is what the instruction leaves of the registers, m' and t' what it leaves of memory and tables: where a place
--- fails, all as they came
+-- fails, all as they came; and how many accesses it made
 pub record Transferred (f : File) (form : Bool) (o : Transfer) (d : ℕ) (m t : List ℕ) (r : Result)
     (m' t' : List ℕ) : Type 0 where
   pub fault : r .fault ≡ firstFault (placeOf f form o d m) (nextPlaceOf f form o d m)
@@ -34,3 +35,4 @@ pub record Transferred (f : File) (form : Bool) (o : Transfer) (d : ℕ) (m t : 
   pub stored : lent m' t'
       ≡ cond (passes (r .fault))
       (storeAll m t (placeOf f form o d m ∷ nextPlaceOf f form o d m ∷ []) (wordsOf (transferStores o f))) (lent m t)
+  pub made : r .made ≡ transferMade o (placeOf f form o d m)

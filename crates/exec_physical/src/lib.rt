@@ -1,6 +1,7 @@
 // LDATX to STDTX: one word or two of memory or page tables, by the physical address in T and X.
 ghost use Rattle.isa.specs.Machine.{tableWords};
 ghost use mathlib.Core.Path.{_≡_};
+ghost use mathlib.Core.Bool.{cond};
 ghost use mathlib.Core.List.{[], _∷_};
 ghost use Prim.Native.Nat.{_<_};
 ghost use lib.ListN.{length};
@@ -22,10 +23,12 @@ use paging::physical::physical_place;
 use paging::place::fault_of;
 use paging::place::word_at;
 
-// The level's registers after the instruction; the place that failed, or one that passed.
+// The level's registers after the instruction; the place that failed, or one that passed; and how many accesses were
+// made.
 pub struct Transferred {
     pub file: File,
     pub fault: Translation,
+    pub made: u32,
 }
 
 // What a word is below, as a size.
@@ -67,6 +70,16 @@ fn two_words(o: Transfer) -> bool
         Transfer::Stztx => false,
         Transfer::Stdtx => true,
     }
+}
+
+// How many words the instruction has.
+fn words_of(o: Transfer) -> u32
+    ensures { λ n. ⌜ n ≡ cond (twoWords o) 2 1 ⌝ }
+{
+    if two_words(o) {
+        return 2;
+    }
+    1
 }
 
 // Where the next word is, if the instruction has two.
@@ -155,11 +168,23 @@ pub fn transfer(
     let x = physical_place(extended, mem.len(), kind_of(o), p);
     let y = second_place(extended, mem.len(), o, p);
     if fault_of(x) != 0 {
-        return Transferred { file: f, fault: x };
+        return Transferred {
+            file: f,
+            fault: x,
+            made: 1,
+        };
     }
     if fault_of(y) != 0 {
-        return Transferred { file: f, fault: y };
+        return Transferred {
+            file: f,
+            fault: y,
+            made: 2,
+        };
     }
     let g = moved(f, mem, tables, o, x, y);
-    Transferred { file: g, fault: y }
+    Transferred {
+        file: g,
+        fault: y,
+        made: words_of(o),
+    }
 }

@@ -1,18 +1,18 @@
 -- The word fetched, and the whole step, as the machine's own definition has them.
 -- Assumes nothing.
-use Prim.Native.Nat.{ℕ, _<_}
+use Prim.Native.Nat.{ℕ, _+_, _<_}
 use mathlib.Core.Path.{_≡_, refl, ap, sym, _∙_}
 use mathlib.Core.Bool.{Bool, true, false, cond}
 use mathlib.Core.List.{List}
 use lib.ListN.{length}
 use lib.Dec.{eqb}
-use Rattle.isa.specs.Machine.{reg, next, normalTableOf}
+use Rattle.isa.specs.Machine.{reg, next, nextCore, normalTableOf}
 use Rattle.isa.specs.Decode.{decode}
 use Rattle.isa.specs.Address.{access}
 use Rattle.isa.specs.Pages.{inWindow, translate, marked, wordAt, rightsOf, passes, entryAt, slotOf, loweredPcr}
 use Rattle.isa.specs.Machine.{interruptPrivileged}
 use Rattle.isa.specs.Step.{executed, afterFetch, fetchOf, fetched, failed, trapped, systemStage}
-use Rattle.isa.specs.Step.{instructionStage, stepIn}
+use Rattle.isa.specs.Step.{Part, counted, privileged, instructionStage, stepIn}
 use Rattle.isa.specs.declared.access.AccessKind.the-variants.{Fetch}
 use Rattle.isa.specs.declared.access.Rights.{Rights}
 use Rattle.isa.specs.declared.access.Translation.{Translation}
@@ -27,12 +27,14 @@ use Rattle.decode.specs.Exr.{exrOf}
 use Rattle.paging.specs.Levels.{levelRights, byFlags, onRing, privilegedBy}
 use Rattle.paging.proofs.Levels.{ring-rights, same-ring}
 use Rattle.paging.proofs.Outcomes.{Found, passes-zero, fails-other}
-use Rattle.event.specs.Events.{eventPart, byPrivilege}
+use Rattle.event.specs.Events.{eventPart, byPrivilege, endedPart}
 use Rattle.event.specs.declared.Ending.{Ending}
 use Rattle.event.specs.declared.Event.{Event}
 use Rattle.event.specs.declared.Event.the-variants.{Failed as Faulted, Privileged as ByRing}
+use Rattle.isa.proofs.Counts.{counted-twice, counted-none}
+use Rattle.exec_memory.specs.Served.{Executing}
 use Rattle.exec_memory.specs.Stages.{levelCore, ringAfter}
-use Rattle.exec_memory.proofs.Stages.{ring-is, ring-small}
+use Rattle.exec_memory.proofs.Stages.{file-left, ring-is, ring-small}
 use Rattle.exec_step.specs.declared.fetch.Page.{Page}
 use Rattle.exec_step.specs.Steps.{InstructionStage, followedBy, followed, ExecutedWord, StepOfLevel}
 
@@ -55,14 +57,21 @@ unfolding eventPart byPrivilege
 privileged-part l c m t q true = refl
 privileged-part l c m t q false = refl
 
+-- an event without a reference, which leaves the file as it is
+pub event-left : {c : Core} {f : File} {r : Rights} (l : ℕ) (m t : List ℕ) {z : Ending} {e : Event} → Executing c f r
+    → z ≡ record { references = 0; event = e; file = f }
+    → endedPart l c z m t ≡ eventPart l (nextCore c) m t (byPrivilege (privileged c) e)
+event-left {c} l m t {e = e} s q =
+    file-left l m t s q ∙ counted-none (eventPart l (nextCore c) m t (byPrivilege (privileged c) e))
+
 -- the instruction i of the word w was executed with the rights r, by PTM of the file f
-pub word-executed : (f : File) (m t : List ℕ) (a w : ℕ) (r : Rights) {q : Rights} {i : Instruction} (d : Ending)
-    (m′ t′ : List ℕ) → q ≡ byFlags r (reg f Sts) → i ≡ decode (followed f w) → InstructionStage f a q i m t d m′ t′
+pub word-executed : (f : File) (m t : List ℕ) (a w : ℕ) (r : Rights) {i : Instruction} (d : Ending)
+    (m′ t′ : List ℕ) → i ≡ decode (followed f w) → InstructionStage f a (byFlags r (reg f Sts)) i m t d m′ t′
     → ExecutedWord f a r w m t d m′ t′
-word-executed f m t a w r {q} d m′ t′ x y h l p b k e z n =
+word-executed f m t a w r d m′ t′ y h l p b k e z n =
     let c : Core = levelCore b p k in
-    let rights : rightsOf c ≡ q =
-    ap (λ (v : Rights). byFlags v (reg b Sts)) n ∙ ap (λ (g : File). byFlags r (reg g Sts)) e ∙ sym x in
+    let rights : rightsOf c ≡ byFlags r (reg f Sts) =
+    ap (λ (v : Rights). byFlags v (reg b Sts)) n ∙ ap (λ (g : File). byFlags r (reg g Sts)) e in
     h l c (record { executing = record { file = e; rights = rights }; address = z })
     ∙ ap (instructionStage l c m t) (y ∙ ap (λ (g : File). decode (followed g w)) (sym e) ∙ executed-followed b w)
 
@@ -87,16 +96,18 @@ pub record Fetched (f : File) (m t : List ℕ) (r : Rights) (ring : ℕ) (x : Tr
 module _ {f : File} {m t : List ℕ} {r : Rights} {ring : ℕ} {x : Translation} {n : ℕ} {v : List ℕ}
     (h : Fetched f m t r ring x n v) where
   fetched-step : (l p : ℕ) (k : Control) (b : Bool) → passes x ≡ b → levelRights p (k .paging) (k .extended) ≡ r
-      → cond b
+      → counted 1
+      (cond b
       (instructionStage l (afterFetch (levelCore f p k) ring x) m v (executed f (decode (wordAt m v x))))
-      (failed (levelCore f p k) x m v)
+      (failed (levelCore f p k) x m v))
       ≡ stepIn l (levelCore f p k) m t
   unfolding stepIn fetched
   fetched-step l p k b s e =
       ap
-      (λ (y : Bool). cond y
+      (λ (y : Bool). counted 1
+      (cond y
       (instructionStage l (afterFetch (levelCore f p k) ring x) m v (executed f (decode (wordAt m v x))))
-      (failed (levelCore f p k) x m v))
+      (failed (levelCore f p k) x m v)))
       (sym s)
       ∙ whole
     where
@@ -129,7 +140,8 @@ module _ {f : File} {m t : List ℕ} {r : Rights} {ring : ℕ} {x : Translation}
       → z ≡ byPrivilege b (e .event)
       → w ≡ wordAt m v x
       → ExecutedWord (next f) (reg f P) (onRing r q) w m v e m′ t′
-      → StepOfLevel f r m t (record { file = e .file; ring = q; page = page; event = z }) m′ t′
+      → StepOfLevel f r m t
+      (record { file = e .file; ring = q; page = page; event = z; references = 1 + e .references }) m′ t′
   step-passed q w page e m′ t′ s below i g a j d l p k y =
       let small : q < 4 = rw i (ring-small t (reg f P) r x below (h .entry)) in
       let lower : ℕ = loweredPcr p q in
@@ -138,18 +150,22 @@ module _ {f : File} {m t : List ℕ} {r : Rights} {ring : ℕ} {x : Translation}
       let core : levelCore f lower k ≡ afterFetch (levelCore f p k) ring x =
       ap (λ (u : ℕ). levelCore f (loweredPcr p u) k) i
       ∙ sym (ring-is f p k t (length m) (reg f P) y (h .found .place) (h .entry)) in
-      ap (eventPart l (levelCore (e .file) lower k) m′ t′)
-      (a ∙ ap (λ (u : Bool). byPrivilege u (e .event)) (g ∙ ap privilegedBy (sym rights)))
-      ∙ d l lower f k refl refl rights
+      let event = a ∙ ap (λ (u : Bool). byPrivilege u (e .event)) (g ∙ ap privilegedBy (sym rights)) in
+      let left : Event → Part = eventPart l (levelCore (e .file) lower k) m′ t′ in
+      ap (λ (u : Event). counted (1 + e .references) (left u)) event
+      ∙ sym (counted-twice 1 (e .references) (left (byPrivilege (privileged (levelCore f lower k)) (e .event))))
+      ∙ ap (counted 1)
+      (d l lower f k refl refl rights
       ∙ ap (λ (c : Core). instructionStage l c m v (executed f (decode w))) core
-      ∙ ap (λ (u : ℕ). instructionStage l (afterFetch (levelCore f p k) ring x) m v (executed f (decode u))) j
+      ∙ ap (λ (u : ℕ). instructionStage l (afterFetch (levelCore f p k) ring x) m v (executed f (decode u))) j)
       ∙ fetched-step l p k true (passes-zero x (h .found .fault) s) y
 
   -- it failed
   pub step-failed : (page : Page) → (n ≡ 0 → ⊥)
-      → StepOfLevel f r m t (record { file = f; ring = r .ring; page = page; event = Faulted x }) m v
+      → StepOfLevel f r m t
+      (record { file = f; ring = r .ring; page = page; event = Faulted x; references = 1 }) m v
   unfolding eventPart
   step-failed page s l p k y =
       let own : loweredPcr p (r .ring) ≡ p = ap (λ (u : Rights). loweredPcr p (u .ring)) (sym y) ∙ same-ring p in
-      ap (λ (u : ℕ). failed (levelCore f u k) x m v) own
+      ap (λ (u : ℕ). counted 1 (failed (levelCore f u k) x m v)) own
       ∙ fetched-step l p k false (fails-other x (h .found .fault) s) y

@@ -7,7 +7,7 @@ use Rattle.isa.specs.Machine.{reg, next}
 use Rattle.isa.specs.Decode.{decode}
 use Rattle.isa.specs.Instructions.{operand}
 use Rattle.isa.specs.Pages.{loweredPcr}
-use Rattle.isa.specs.Step.{instructionStage, executed, stepIn}
+use Rattle.isa.specs.Step.{counted, instructionStage, executed, stepIn}
 use Rattle.isa.specs.declared.access.Rights.{Rights}
 use Rattle.isa.specs.declared.instruction.Instruction.{Instruction}
 use Rattle.isa.specs.declared.instruction.Instruction.the-variants.{Unprivileged, Privileged, Execute, Monitor, Illegal}
@@ -60,4 +60,5 @@ ExecutedWord f at r w m t e m' t' =
 abbrev pub StepOfLevel : File → Rights → List ℕ → List ℕ → LevelStep → List ℕ → List ℕ → Type 0
 StepOfLevel f r m t s m' t' =
     (l p : ℕ) (k : Control) → levelRights p (k .paging) (k .extended) ≡ r
-    → eventPart l (levelCore (s .file) (loweredPcr p (s .ring)) k) m' t' (s .event) ≡ stepIn l (levelCore f p k) m t
+    → counted (s .references) (eventPart l (levelCore (s .file) (loweredPcr p (s .ring)) k) m' t' (s .event))
+    ≡ stepIn l (levelCore f p k) m t

@@ -5,6 +5,9 @@ ghost use Prim.Native.Nat.{_<_};
 ghost use lib.ListN.{length};
 ghost use Rattle.word_class.specs.Classes.{Sorts};
 ghost use Rattle.isa.specs.Decode.{decode};
+ghost use Rattle.isa.specs.Machine.{reg};
+ghost use Rattle.isa.specs.declared.machine.Register.the-variants.{Sts};
+ghost use Rattle.paging.specs.Levels.{byFlags};
 ghost use Rattle.exec_step.specs.Steps.{InstructionStage, FineAlone, ExecutedWord, followed};
 use decode::Exr;
 use decode::exr_of;
@@ -16,10 +19,8 @@ use exec_register::operand::operand;
 use isa::access::Rights;
 use isa::instruction::Instruction;
 use isa::machine::File;
-use isa::machine::Register;
-use paging::rights::by_flags;
 
-// An instruction after EXR was followed: EXR itself is illegal here.
+// An instruction after EXR was followed: EXR itself is illegal here. By the rights r with PTM 1.
 fn instruction_stage(
     f: File,
     at: u16,
@@ -30,8 +31,8 @@ fn instruction_stage(
 ) -> Ending
     requires { ⌜ (r .normal < 4) × (r .alternate < 4) ⌝ }
     requires { ⌜ length (now tables) ≡ tableWords ⌝ }
-    ensures { λ e. ⌜ InstructionStage f at r i (now (mem .entry)) (now (tables .entry)) e (now (mem .exit))
-        (now (tables .exit)) ⌝ }
+    ensures { λ e. ⌜ InstructionStage f at (byFlags r (reg f Sts)) i (now (mem .entry)) (now (tables .entry)) e
+        (now (mem .exit)) (now (tables .exit)) ⌝ }
     ensures { λ e. ⌜ FineAlone i e ⌝ }
 {
     match i {
@@ -71,7 +72,6 @@ pub fn executed_word(
         (now (tables .exit)) ⌝ }
     ensures { λ e. ⌜ FineAlone (decode (followed f w)) e ⌝ }
 {
-    let s = by_flags(r, f.get(Register::Sts));
     let i = decode::decode(classes, followed(f, w));
-    instruction_stage(f, at, s, mem, tables, i)
+    instruction_stage(f, at, r, mem, tables, i)
 }

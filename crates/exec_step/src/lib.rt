@@ -31,12 +31,14 @@ use paging::rights::privileged;
 pub mod fetch;
 mod instruction;
 
-// The level's file and ring after the step, the page of its fetch, and how it ended.
+// The level's file and ring after the step, the page of its fetch, how it ended, and the references of fetch and
+// instruction.
 pub struct LevelStep {
     pub file: File,
     pub ring: u32,
     pub page: Page,
     pub event: Event,
+    pub references: u64,
 }
 
 // By the rights r with PTM 1 and the kept page k.
@@ -75,6 +77,7 @@ pub fn step_in(
             ring: g.ring,
             page: page,
             event: by_privilege(privileged(s), event),
+            references: 1 + e.references as u64,
         };
     }
     LevelStep {
@@ -82,5 +85,6 @@ pub fn step_in(
         ring: r.ring,
         page: no_page(),
         event: Event::Failed(x),
+        references: 1,
     }
 }

@@ -2,6 +2,7 @@
 -- Assumes nothing.
 use Rattle.isa.specs.Machine.{levelCount, registerWords}
 use Prim.Native.Nat.{ℕ, _%_, _<_}
+use native.Mathlib.Nat.{zero-add, add-zero}
 use native.Mathlib.Omega.{arith}
 use mathlib.Core.Path.{_≡_, refl, sym, ap, subst, _∙_}
 use mathlib.Core.Bool.{Bool, true, false, cond, _&&_}
@@ -10,8 +11,8 @@ use lib.Dec.{eqb}
 use lib.ListN.{length}
 use Rattle.isa.specs.Machine.{reg, withReg, fileAt, putFile, pack, withCore}
 use Rattle.isa.specs.Pages.{faultOf, passes, Tested, testAll, wordsAt, storeAll, Lent, rightsOf}
-use Rattle.isa.specs.Step.{turn, faulted, withRegs, kept, isP, putRegister, putOther, blockOrder, blockFrom}
-use Rattle.isa.specs.Step.{blockWords, putBlock, blockFailed, blockStored, blockLoaded, blockTested}
+use Rattle.isa.specs.Step.{Turn, turn, countedTurn, faulted, withRegs, kept, isP, putRegister, putOther, blockOrder}
+use Rattle.isa.specs.Step.{blockFrom, blockWords, putBlock, blockFailed, blockStored, blockLoaded, blockTested}
 use Rattle.isa.specs.declared.access.AccessKind.{AccessKind}
 use Rattle.isa.specs.declared.access.AccessKind.the-variants.{Write}
 use Rattle.isa.specs.declared.machine.Core.{Core}
@@ -33,8 +34,17 @@ use Rattle.level_effects.specs.Blocks.{BlockTest, withBlock}
 use Rattle.level_effects.specs.Leaving.{leaving}
 
 -- the level of what a step leaves, and the steps before it
-pub left-at : {l k : ℕ} {c : Core} {n : ℕ} {r : Advanced} → r ≡ leaving l k c n → (r .level ≡ l) × (r .before ≡ k)
+pub left-at : {l k : ℕ} {c : Core} {made n : ℕ} {r : Advanced} → r ≡ leaving l k c made n
+    → (r .level ≡ l) × (r .before ≡ k)
 left-at e = (ap (λ (r : Advanced). r .level) e, ap (λ (r : Advanced). r .before) e)
+
+-- a turn in which so many references were made
+abbrev pub turnWith : ℕ → State → ℕ → List ℕ → List ℕ → Turn
+turnWith made s n m t = record { state = s; gave = n; memory = m; tables = t; references = made }
+
+turn-counted : (made : ℕ) (s : State) (n : ℕ) (m t : List ℕ)
+    → turnWith made s n m t ≡ countedTurn made (turn s n m t)
+turn-counted made s n m t = ap (λ (k : ℕ). turnWith k s n m t) (sym (add-zero made))
 
 -- the registers of a level in the order of a list
 pub level-words :
@@ -111,45 +121,56 @@ module _ (l : ℕ) (c : Core) (q : AccessKind) (b m t : List ℕ) {r : Block} {d
       ap (λ (v : List ℕ). pack l n v p) (x .put)
       ∙ ap (withRegs (pack l n b p)) (put-put b l (x .level) (x .registers) (c .file) (n .file))
 
-  tested-here : test ≡ testAll t (length m) (rightsOf c) (blockFrom q (reg (c .file) X) blockOrder)
+  -- .. by the words in hand
+  abbrev here : Tested
+  here = testAll t (length m) (rightsOf c) (blockFrom q (reg (c .file) X) blockOrder)
+
+  tested-here : test ≡ here
   tested-here =
       let o = open-pack l c b p (x .level) (x .registers) k in
       let a = own-register l c b p (x .level) (x .registers) X in
       λ i. testAll t (length m) (rightsOf (o i)) (blockFrom q (a i) blockOrder)
+
+  count-here : here .made ≡ r .made
+  count-here = sym (x .outcome .count ∙ zero-add (here .made))
 
   -- all accesses passed
   module _ {v : ℕ} (f : v ≡ faultOf (r .fault)) (o : v ≡ 0) (n : ℕ) where
     g : passes (r .fault) ≡ true
     g = passes-zero (r .fault) f o
 
-    passed-test : test ≡ record { tables = u; places = blockPlaces r; fault = r .fault }
+    passed-test : test ≡ record { tables = u; places = blockPlaces r; fault = r .fault; made = r .made }
     passed-test =
         let v = sym (x .outcome .tables) in
         let y = sym (x .outcome .passed g) in
         let z = sym (x .outcome .failed) in
-        tested-here ∙ λ i. record { tables = v i; places = y i; fault = z i }
+        tested-here ∙ λ i. record { tables = v i; places = y i; fault = z i; made = count-here i }
 
     pub block-to-memory :
         {w : File} → w ≡ fileAt d (n % 16)
         → {j : Lent}
         → j ≡ storeAll m u (blockPlaces r) (listOf w)
-        → turn (pack l c d p) 0 (j .memory) (j .tables) ≡ blockStored state n m test
+        → turnWith (r .made) (pack l c d p) 0 (j .memory) (j .tables) ≡ blockStored state n m test
     unfolding blockStored
     block-to-memory y {j = j} z =
         let words =
         ap listOf y
         ∙ level-words state d n blockOrder
         ∙ ap (λ (v : List ℕ). blockWords (withRegs state v) n blockOrder) (x .put) in
-        ap (λ (s : State). turn s 0 (j .memory) (j .tables)) (put-back c)
-        ∙ ap (λ (v : Lent). turn state 0 (v .memory) (v .tables)) (z ∙ ap (storeAll m u (blockPlaces r)) words)
+        ap (λ (s : State). turnWith (r .made) s 0 (j .memory) (j .tables)) (put-back c)
+        ∙ ap (λ (v : Lent). turnWith (r .made) state 0 (v .memory) (v .tables))
+        (z ∙ ap (storeAll m u (blockPlaces r)) words)
+        ∙ turn-counted (r .made) state 0 _ _
         ∙ sym (ap (blockStored state n m) passed-test ∙ simp g)
 
     pub block-from-memory :
         {ws : List ℕ} → ws ≡ wordsAt m u (blockPlaces r) → {s : State} → s ≡ putBlock (withRegs state d) n blockOrder ws
-        → turn s 0 m u ≡ blockLoaded state n m test
+        → turnWith (r .made) s 0 m u ≡ blockLoaded state n m test
     unfolding blockLoaded
     block-from-memory y z =
-        ap (λ (s : State). turn s 0 m u) (z ∙ λ i. putBlock (withRegs state (x .put i)) n blockOrder (y i))
+        ap (λ (s : State). turnWith (r .made) s 0 m u)
+        (z ∙ λ i. putBlock (withRegs state (x .put i)) n blockOrder (y i))
+        ∙ turn-counted (r .made) _ 0 m u
         ∙ sym (ap (blockLoaded state n m) passed-test ∙ simp g)
 
   -- one failed: neither SRB nor LRB moves a word
@@ -175,9 +196,13 @@ module _ (l : ℕ) (c : Core) (q : AccessKind) (b m t : List ℕ) {r : Block} {d
         ∙ ap (λ (s : State). turn s (faultOf (r .fault)) m u) (pack-pack l c b p (x .level) (x .registers) k left))
 
     pub not-moved :
-        {y : Advanced} {j : ℕ} → y ≡ leaving l j left (faultOf (r .fault))
+        {y : Advanced} {j : ℕ} → y ≡ leaving l j left (r .made) (faultOf (r .fault))
         → (advancedTurn y d p m u ≡ blockStored state n m test) × (advancedTurn y d p m u ≡ blockLoaded state n m test)
     unfolding blockStored blockLoaded
     not-moved z =
-        let e = ap (λ (y : Advanced). advancedTurn y d p m u) z ∙ failed-here in
+        let made = sym (ap (λ (v : Tested). v .made) tested-here ∙ count-here) in
+        let e =
+        ap (λ (y : Advanced). advancedTurn y d p m u) z
+        ∙ turn-counted (r .made) (pack l left d p) (faultOf (r .fault)) m u
+        ∙ (λ i. countedTurn (made i) (failed-here i)) in
         (e ∙ sym (simp fault-here), e ∙ sym (simp fault-here))

@@ -23,12 +23,12 @@ withBlock own f [] ws = f
 withBlock own f (r ∷ rs) [] = f
 withBlock own f (r ∷ rs) (w ∷ ws) = withBlock own (cond (own && isP r) f (withReg f r (kept r w))) rs ws
 
--- By the tables t, the accesses from the address in X on gave the places and the fault of r, and left the tables u. The
--- core's registers were put back at its level: of the registers b that gives d.
+-- By the tables t, the accesses from the address in X on gave the places, the fault and the number of r, and left the
+-- tables u. The core's registers were put back at its level: of the registers b that gives d.
 pub record BlockTest (l : ℕ) (c : Core) (k : AccessKind) (b : List ℕ) (words : ℕ) (t : List ℕ) (r : Block)
     (d u : List ℕ) : Type 0 where
   pub outcome :
-      Outcome t words (rightsOf c) [] (blockFrom k (reg (c .file) X) blockOrder) (blockPlaces r) (r .fault) u
+      Outcome t words (rightsOf c) [] (blockFrom k (reg (c .file) X) blockOrder) (blockPlaces r) (r .fault) (r .made) u
   pub level : l < levelCount
   pub registers : length b ≡ registerWords
   pub put : d ≡ putFile b l (c .file)

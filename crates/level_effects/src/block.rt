@@ -85,14 +85,15 @@ fn put_block(level: u16, regs: &mut [u16], l: u16, w: File)
     put_file(regs, l % LEVELS, with_block(f, l % LEVELS == level, w));
 }
 
-// An access of the block failed: the fault is the running level's.
-fn block_failed(level: u16, before: u64, x: Translation, c: Core) -> Advanced
-    ensures { λ r. ⌜ r ≡ leaving level before (faulted x c) (faultOf x) ⌝ }
+// An access of the block failed, the last that was made: the fault is the running level's.
+fn block_failed(level: u16, before: u64, x: Translation, c: Core, made: u32) -> Advanced
+    ensures { λ r. ⌜ r ≡ leaving level before (faulted x c) made (faultOf x) ⌝ }
 {
     Advanced {
         level: level,
         core: faulted(x, c),
         before: before,
+        references: made as u64,
         gave: fault_of(x),
     }
 }
@@ -122,10 +123,11 @@ pub fn block_stored(
             level: level,
             core: c,
             before: before,
+            references: b.made as u64,
             gave: 0,
         };
     }
-    block_failed(level, before, x, c)
+    block_failed(level, before, x, c, b.made)
 }
 
 // LRB: the registers of a level from memory.
@@ -153,8 +155,9 @@ pub fn block_loaded(
             level: level,
             core: reloaded(level, c, regs),
             before: before,
+            references: b.made as u64,
             gave: 0,
         };
     }
-    block_failed(level, before, x, c)
+    block_failed(level, before, x, c, b.made)
 }

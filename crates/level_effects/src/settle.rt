@@ -20,19 +20,20 @@ use levels::registers::called;
 use levels::registers::register_read;
 use levels::registers::register_written;
 
-// What a step leaves beside the lent words.
+// What a step leaves beside the lent words, without a reference.
 fn turned(level: u16, before: u64, c: Core, gave: u16) -> Advanced
-    ensures { λ r. ⌜ r ≡ leaving level before c gave ⌝ }
+    ensures { λ r. ⌜ r ≡ leaving level before c 0 gave ⌝ }
 {
     Advanced {
         level: level,
         core: c,
         before: before,
+        references: 0,
         gave: gave,
     }
 }
 
-// What the running level left to be done; before: the steps before this one.
+// What the running level left to be done; before: the steps before this one. The references are those made here.
 pub fn settle(
     level: u16,
     before: u64,

@@ -4,7 +4,7 @@ use mathlib.Core.Bool.{Bool, not, _&&_}
 use mathlib.Core.List.{List}
 use lib.Dec.{eqb}
 use Rattle.isa.specs.Machine.{coreOf, pack, stateWith}
-use Rattle.isa.specs.Step.{Turn, turn, highestLevel}
+use Rattle.isa.specs.Step.{Turn, highestLevel}
 use Rattle.isa.specs.declared.machine.Control.{Control}
 use Rattle.isa.specs.declared.machine.Core.{Core}
 use Rattle.levels.specs.declared.change.Advanced.{Advanced}
@@ -19,4 +19,10 @@ dueAt l k = eqb (k .interrupts) 1 && not (eqb (highestLevel k) l)
 
 -- what the steps leave of the machine whose other words are regs and pcrs
 abbrev pub advancedTurn : Advanced → List ℕ → List ℕ → List ℕ → List ℕ → Turn
-advancedTurn r regs pcrs m t = turn (pack (r .level) (r .core) regs pcrs) (r .gave) m t
+advancedTurn r regs pcrs m t = record {
+  state = pack (r .level) (r .core) regs pcrs;
+  gave = r .gave;
+  memory = m;
+  tables = t;
+  references = r .references;
+}

@@ -13,11 +13,13 @@ use arithmetic::bits;
 use isa::machine::Control;
 use isa::machine::Core;
 
-// The running level, its words, the steps before the last, and the interrupt that the last gave, or 0.
+// The running level, its words, the steps before the last, the references of all of them, and the interrupt that the
+// last gave, or 0.
 pub struct Advanced {
     pub level: u16,
     pub core: Core,
     pub before: u64,
+    pub references: u64,
     pub gave: u16,
 }
 
@@ -56,6 +58,7 @@ pub fn changed(level: u16, c: Core, regs: &mut [u16], pcrs: &mut [u16]) -> Advan
         level: to,
         core: opened(to, k, regs, pcrs),
         before: 0,
+        references: 0,
         gave: 0,
     }
 }

@@ -1,11 +1,13 @@
 -- Laws of blocks: tests one after the other, the addresses by fours and twos, and that writes are stored.
 -- Assumes nothing.
-use Prim.Native.Nat.{ℕ, _+_}
+use Prim.Native.Nat.{ℕ, _+_, _≤_}
+use native.Mathlib.Nat.{zero-add, suc-add}
 use native.Mathlib.Omega.{arith}
 use mathlib.Core.Path.{_≡_, refl, sym, ap, _∙_}
 use mathlib.Core.Bool.{Bool, true, false, not}
 use mathlib.Core.List.{List, [], _∷_, _++_}
 use lib.Dec.{ltb}
+use lib.ListN.{length}
 use Rattle.isa.specs.Address.{access, sum}
 use Rattle.isa.specs.Pages.{Entry, entryAt, slotOf, tableOf, somePermit, needed, ringAllows, physical, withinMemory}
 use Rattle.isa.specs.Pages.{judged, inWindow, translate, passes, marked, Tested, alsoAt, testAll}
@@ -16,6 +18,7 @@ use Rattle.isa.specs.declared.access.AccessKind.the-variants.{Write}
 use Rattle.isa.specs.declared.access.Rights.{Rights}
 use Rattle.isa.specs.declared.machine.Register.{Register}
 use Rattle.isa.specs.declared.access.Translation.{Translation}
+use Rattle.isa.proofs.Counts.{made-most}
 use Rattle.isa.proofs.Tests.{either, no-both}
 use Rattle.paging.specs.Within.{AllWithin}
 use Rattle.paging.specs.Outcome.{Outcome}
@@ -34,21 +37,21 @@ module _ (words : ℕ) (r : Rights) (ys : List Access) where
   abbrev after : Tested → Tested
   after q =
       let s = testAll (q .tables) words r ys in
-      record { tables = s .tables; places = q .places ++ s .places; fault = s .fault }
+      record { tables = s .tables; places = q .places ++ s .places; fault = s .fault; made = q .made + s .made }
 
   abbrev tested : List ℕ → List Access → Tested
   tested t xs = testAll t words r xs
 
   all-passed : (t : List ℕ) (xs : List Access) → passes (tested t xs .fault) ≡ true
       → tested t (xs ++ ys) ≡ after (tested t xs)
-  all-passed t [] h = refl
+  all-passed t [] h = simp zero-add
   all-passed t (x ∷ xs) h = go (passes (translate t words r x)) refl (λ k. all-passed (marked t words r x) xs k)
     where
       go : (b : Bool) → passes (translate t words r x) ≡ b
           → (passes (tested (marked t words r x) xs .fault) ≡ true
           → tested (marked t words r x) (xs ++ ys) ≡ after (tested (marked t words r x) xs))
           → tested t (x ∷ (xs ++ ys)) ≡ after (tested t (x ∷ xs))
-      go true q i = simp q (ap (alsoAt (translate t words r x)) (i (simp q at h)))
+      go true q i = simp (q, suc-add) (ap (alsoAt (translate t words r x)) (i (simp q at h)))
       go false q i = absurd (no-both (simp q at h))
 
   some-failed : (t : List ℕ) (xs : List Access) → passes (tested t xs .fault) ≡ false
@@ -63,29 +66,35 @@ module _ (words : ℕ) (r : Rights) (ys : List Access) where
       go true q i = simp q (ap (alsoAt (translate t words r x)) (i (simp q at h)))
       go false q i = simp q
 
-  module _ {t : List ℕ} {xs : List Access} {ps : List Translation} {f : Translation} {u : List ℕ}
-      (o : Outcome t words r [] xs ps f u) where
-    pub joined :
-        {qs : List Translation} {g : Translation} {v : List ℕ} → passes f ≡ true → Outcome u words r [] ys qs g v
-        → Outcome t words r [] (xs ++ ys) (ps ++ qs) g v
+  module _ {t : List ℕ} {xs : List Access} {ps : List Translation} {f : Translation} {k : ℕ} {u : List ℕ}
+      (o : Outcome t words r [] xs ps f k u) where
+    pub joined : {qs : List Translation} {g : Translation} {n : ℕ} {v : List ℕ} → passes f ≡ true
+        → Outcome u words r [] ys qs g n v → Outcome t words r [] (xs ++ ys) (ps ++ qs) g (k + n) v
     joined {qs} h q =
         let e = all-passed t xs (ap passes (sym (o .failed)) ∙ h) in
         record {
           tables = rw (e, ← o .tables) (q .tables);
           failed = rw (e, ← o .tables) (q .failed);
-          passed = λ k. rw (e, ← o .tables, o .passed h, q .passed k);
+          passed = λ z. rw (e, ← o .tables, o .passed h, q .passed z);
+          count = rw (e, ← o .tables) (omega (arith, o .count, q .count));
           within = all-within words ps qs (o .within) (q .within);
         }
 
-    pub stopped : passes f ≡ false → Outcome t words r [] (xs ++ ys) (ps ++ ps) f u
+    pub stopped : passes f ≡ false → Outcome t words r [] (xs ++ ys) (ps ++ ps) f k u
     stopped h =
         let e = some-failed t xs (ap passes (sym (o .failed)) ∙ h) in
         record {
           tables = rw e (o .tables);
           failed = rw e (o .failed);
-          passed = λ k. absurd (no-both (sym h ∙ k));
+          passed = λ z. absurd (no-both (sym h ∙ z));
+          count = rw e (o .count);
           within = all-within words ps ps (o .within) (o .within);
         }
+
+-- no more are made than there are
+pub few : {t : List ℕ} {words : ℕ} {r : Rights} {xs : List Access} {ps : List Translation} {f : Translation} {k : ℕ}
+    {u : List ℕ} → Outcome t words r [] xs ps f k u → k ≤ length xs
+few {t} {words} {r} {xs} o = omega (arith, o .count, made-most t words r xs)
 
 -- ---- the addresses of a block, by halves
 

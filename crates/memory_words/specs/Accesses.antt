@@ -21,18 +21,24 @@ severalWords k alternate a n =
 abbrev pub placesOf : Places → List Translation
 placesOf (Two x y) = x ∷ y ∷ []
 placesOf (Three x y z) = x ∷ y ∷ z ∷ []
-placesOf (Fault x) = []
+placesOf (Fault x n) = []
 
 -- three places, where two are followed by none to load from
 abbrev pub threePlaces : Places → List Translation
 threePlaces (Two x y) = x ∷ y ∷ NoAccess ∷ []
 threePlaces (Three x y z) = x ∷ y ∷ z ∷ []
-threePlaces (Fault x) = NoAccess ∷ NoAccess ∷ NoAccess ∷ []
+threePlaces (Fault x n) = NoAccess ∷ NoAccess ∷ NoAccess ∷ []
 
 abbrev pub faultIn : Places → Translation
 faultIn (Two x y) = NoAccess
 faultIn (Three x y z) = NoAccess
-faultIn (Fault x) = x
+faultIn (Fault x n) = x
+
+-- how many accesses were made
+abbrev pub madeIn : Places → ℕ
+madeIn (Two x y) = 2
+madeIn (Three x y z) = 3
+madeIn (Fault x n) = n
 
 -- the words after the first
 abbrev pub afterFirst : Triple → Triple

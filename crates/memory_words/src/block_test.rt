@@ -20,7 +20,7 @@ use paging::translation::translate;
 fn test_pair(tables: &mut [u16], words: usize, r: Rights, k: AccessKind, a: u16) -> Pair
     requires { ⌜ (r .normal < 4) × (r .alternate < 4) ⌝ }
     requires { ⌜ length (now tables) ≡ tableWords ⌝ }
-    ensures { λ p. ⌜ Outcome (now (tables .entry)) words r [] (pairAt k a) (pairPlaces p) (p .fault)
+    ensures { λ p. ⌜ Outcome (now (tables .entry)) words r [] (pairAt k a) (pairPlaces p) (p .fault) (p .made)
         (now (tables .exit)) ⌝ }
 {
     let x = translate(tables, words, r, k, true, a);
@@ -31,18 +31,21 @@ fn test_pair(tables: &mut [u16], words: usize, r: Rights, k: AccessKind, a: u16)
                 first: x,
                 second: y,
                 fault: Translation::NoAccess,
+                made: 2,
             };
         }
         return Pair {
             first: x,
             second: y,
             fault: y,
+            made: 2,
         };
     }
     Pair {
         first: x,
         second: x,
         fault: x,
+        made: 1,
     }
 }
 
@@ -50,7 +53,7 @@ fn test_pair(tables: &mut [u16], words: usize, r: Rights, k: AccessKind, a: u16)
 fn test_half(tables: &mut [u16], words: usize, r: Rights, k: AccessKind, a: u16) -> Half
     requires { ⌜ (r .normal < 4) × (r .alternate < 4) ⌝ }
     requires { ⌜ length (now tables) ≡ tableWords ⌝ }
-    ensures { λ h. ⌜ Outcome (now (tables .entry)) words r [] (halfAt k a) (halfPlaces h) (h .fault)
+    ensures { λ h. ⌜ Outcome (now (tables .entry)) words r [] (halfAt k a) (halfPlaces h) (h .fault) (h .made)
         (now (tables .exit)) ⌝ }
 {
     let p = test_pair(tables, words, r, k, a);
@@ -62,12 +65,14 @@ fn test_half(tables: &mut [u16], words: usize, r: Rights, k: AccessKind, a: u16)
             first: p,
             second: q,
             fault: x,
+            made: p.made + q.made,
         };
     }
     Half {
         first: p,
         second: p,
         fault: f,
+        made: p.made,
     }
 }
 
@@ -76,7 +81,7 @@ pub fn test_block(tables: &mut [u16], words: usize, r: Rights, k: AccessKind, a:
     requires { ⌜ (r .normal < 4) × (r .alternate < 4) ⌝ }
     requires { ⌜ length (now tables) ≡ tableWords ⌝ }
     ensures { λ b. ⌜ Outcome (now (tables .entry)) words r [] (blockFrom k a blockOrder) (blockPlaces b) (b .fault)
-        (now (tables .exit)) ⌝ }
+        (b .made) (now (tables .exit)) ⌝ }
 {
     let h = test_half(tables, words, r, k, a);
     let f = h.fault;
@@ -87,11 +92,13 @@ pub fn test_block(tables: &mut [u16], words: usize, r: Rights, k: AccessKind, a:
             first: h,
             second: g,
             fault: x,
+            made: h.made + g.made,
         };
     }
     Block {
         first: h,
         second: h,
         fault: f,
+        made: h.made,
     }
 }

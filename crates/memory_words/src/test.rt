@@ -7,7 +7,7 @@ ghost use lib.ListN.{length};
 ghost use Rattle.isa.specs.Address.{access, sum};
 ghost use Rattle.paging.specs.Within.{Within};
 ghost use Rattle.paging.specs.Outcome.{Outcome};
-ghost use Rattle.memory_words.specs.Accesses.{severalWords, placesOf, faultIn};
+ghost use Rattle.memory_words.specs.Accesses.{severalWords, placesOf, faultIn, madeIn};
 use crate::location::Location;
 use crate::outcome::Places;
 use isa::access::AccessKind;
@@ -28,13 +28,13 @@ fn third(
     requires { ⌜ length (now tables) ≡ tableWords ⌝ }
     requires { ⌜ Within words a × Within words b ⌝ }
     ensures { λ p. ⌜ Outcome (now (tables .entry)) words (x .rights) (a ∷ b ∷ [])
-        (access k (x .alternate) (sum (x .address) 2) ∷ []) (placesOf p) (faultIn p) (now (tables .exit)) ⌝ }
+        (access k (x .alternate) (sum (x .address) 2) ∷ []) (placesOf p) (faultIn p) (madeIn p) (now (tables .exit)) ⌝ }
 {
     let r = x.rights;
     let last = std::num::wrapping_add_u16(x.address, 2);
     let c = translate(tables, words, r, k, x.alternate, last);
     if fault_of(c) != 0 {
-        return Places::Fault(c);
+        return Places::Fault(c, 3);
     }
     Places::Three(a, b, c)
 }
@@ -44,17 +44,17 @@ pub fn several(tables: &mut [u16], words: usize, x: Location, k: AccessKind, n: 
     requires { ⌜ (x .rights .normal < 4) × (x .rights .alternate < 4) ⌝ }
     requires { ⌜ length (now tables) ≡ tableWords ⌝ }
     ensures { λ p. ⌜ Outcome (now (tables .entry)) words (x .rights) [] (severalWords k (x .alternate) (x .address) n)
-        (placesOf p) (faultIn p) (now (tables .exit)) ⌝ }
+        (placesOf p) (faultIn p) (madeIn p) (now (tables .exit)) ⌝ }
 {
     let r = x.rights;
     let a = translate(tables, words, r, k, x.alternate, x.address);
     if fault_of(a) != 0 {
-        return Places::Fault(a);
+        return Places::Fault(a, 1);
     }
     let second = std::num::wrapping_add_u16(x.address, 1);
     let b = translate(tables, words, r, k, x.alternate, second);
     if fault_of(b) != 0 {
-        return Places::Fault(b);
+        return Places::Fault(b, 2);
     }
     if n == 2 {
         return Places::Two(a, b);

@@ -36,7 +36,7 @@ pub fn read_all(mem: &[u16], tables: &[u16], p: Places) -> Triple
     match p {
         Places::Two(x, y) => read_three(mem, tables, x, y, Translation::NoAccess),
         Places::Three(x, y, z) => read_three(mem, tables, x, y, z),
-        Places::Fault(_) => Triple { a: 0, b: 0, c: 0 },
+        Places::Fault(_, _) => Triple { a: 0, b: 0, c: 0 },
     }
 }
 
@@ -99,6 +99,6 @@ pub fn store_all(mem: &mut [u16], tables: &mut [u16], p: Places, w: Triple)
             let v = store_two(mem, tables, x, y, w);
             stored(mem, tables, z, v);
         }
-        Places::Fault(_) => {}
+        Places::Fault(_, _) => {}
     }
 }

@@ -1,9 +1,12 @@
 -- A test of accesses, one access further.
 -- Assumes nothing.
-use Prim.Native.Nat.{ℕ}
+use Prim.Native.Nat.{ℕ, suc, _+_}
+use native.Mathlib.Nat.{add-zero}
+use native.Mathlib.Omega.{arith}
 use mathlib.Core.Path.{_≡_, refl, sym, ap, _∙_}
 use mathlib.Core.Bool.{true, false, and-false}
 use mathlib.Core.List.{List, [], _∷_, _++_, append-nil, append-assoc}
+use lib.ListN.{length, length-append}
 use borrow.Author.Tests.{eq-eqb, ne-eqb}
 use Rattle.isa.specs.Pages.{testAll, translate, marked, faultOf, passes}
 use Rattle.isa.specs.declared.access.Access.{Access}
@@ -28,6 +31,10 @@ unmarked : (t : List ℕ) (words : ℕ) (r : Rights) (x : Access) → passes (tr
 unfolding marked
 unmarked t words r x h = simp (h, and-false)
 
+-- one place more, and as many after it
+one-more : (xs : List Translation) (y : Translation) (n : ℕ) → length (xs ++ y ∷ []) + n ≡ length xs + suc n
+one-more xs y n = let h = length-append xs (y ∷ []) in omega (arith, h)
+
 -- what the code found of an access x: its translation y, the number n of its fault, and the tables v that it left
 pub record Found (t : List ℕ) (words : ℕ) (r : Rights) (x : Access) (y : Translation) (n : ℕ)
     (v : List ℕ) : Type 0 where
@@ -47,40 +54,49 @@ module _ {t : List ℕ} {words : ℕ} {r : Rights} {x : Access} {y : Translation
 
   -- it passed, and the accesses after it were tested
   pub found-passed : {before : List Translation} {xs : List Access} {ps : List Translation} {z : Translation}
-      {u : List ℕ} → n ≡ 0
-      → Outcome v words r (before ++ y ∷ []) xs ps z u
-      → Outcome t words r before (x ∷ xs) ps z u
-  found-passed {before} {xs} {ps} {z} {u} e o =
+      {made : ℕ} {u : List ℕ} → n ≡ 0
+      → Outcome v words r (before ++ y ∷ []) xs ps z made u
+      → Outcome t words r before (x ∷ xs) ps z made u
+  found-passed {before} {xs} {ps} {z} {made} {u} e o =
       go (ap passes (sym (f .place)) ∙ passes-zero y (f .fault) e) (rw (← f .marks, ← f .place) o)
     where
       go : passes (translate t words r x) ≡ true
-          → Outcome (marked t words r x) words r (before ++ translate t words r x ∷ []) xs ps z u
-          → Outcome t words r before (x ∷ xs) ps z u
-      go h q = record {
-        tables = simp h (q .tables);
-        failed = simp h (q .failed);
-        passed =
-            λ k. simp h (q .passed k
-            ∙ append-assoc before (translate t words r x ∷ []) (testAll (marked t words r x) words r xs .places));
-        within = q .within;
-      }
+          → Outcome (marked t words r x) words r (before ++ translate t words r x ∷ []) xs ps z made u
+          → Outcome t words r before (x ∷ xs) ps z made u
+      go h q =
+          let p = translate t words r x in
+          let rest = testAll (marked t words r x) words r xs in
+          record {
+            tables = simp h (q .tables);
+            failed = simp h (q .failed);
+            passed = λ k. simp h (q .passed k ∙ append-assoc before (p ∷ []) (rest .places));
+            count = simp h (q .count ∙ one-more before p (rest .made));
+            within = q .within;
+          }
 
   -- it failed
   pub found-failed : {before : List Translation} {xs : List Access} {ps : List Translation} → (n ≡ 0 → ⊥)
-      → AllWithin words ps → Outcome t words r before (x ∷ xs) ps y v
+      → AllWithin words ps → Outcome t words r before (x ∷ xs) ps y (length before + 1) v
   found-failed {before} {xs} {ps} e w =
       rw (f .place, f .marks) (go (ap passes (sym (f .place)) ∙ fails-other y (f .fault) e))
     where
       go : passes (translate t words r x) ≡ false
-          → Outcome t words r before (x ∷ xs) ps (translate t words r x) (marked t words r x)
+          → Outcome t words r before (x ∷ xs) ps (translate t words r x) (length before + 1) (marked t words r x)
       go h = record {
         tables = simp h (unmarked t words r x h);
         failed = simp h;
         passed = λ k. absurd (no-both (sym h ∙ k));
+        count = simp h;
         within = w;
       }
 
 -- no access is left
 pub done : {t : List ℕ} {words : ℕ} {r : Rights} {ps : List Translation} → AllWithin words ps
-    → Outcome t words r ps [] ps NoAccess t
-done {ps = ps} w = record { tables = refl; failed = refl; passed = λ h. sym (append-nil ps); within = w }
+    → Outcome t words r ps [] ps NoAccess (length ps) t
+done {ps = ps} w = record {
+  tables = refl;
+  failed = refl;
+  passed = λ h. sym (append-nil ps);
+  count = sym (add-zero (length ps));
+  within = w;
+}

@@ -5,8 +5,9 @@ ghost use mathlib.Core.Bool.{false};
 ghost use Prim.Native.Nat.{_<_};
 ghost use lib.ListN.{length};
 ghost use Rattle.word_class.specs.Classes.{Sorts};
-ghost use Rattle.isa.specs.Run.{ended, runFrom};
-ghost use Rattle.isa.specs.Step.{turn, step};
+ghost use Rattle.isa.specs.Run.{runFrom};
+ghost use Rattle.isa.specs.Step.{step};
+ghost use Rattle.run.specs.Runs.{ranWith, turnWith};
 use crate::machine::run_in;
 use isa::answer::Reason;
 use isa::machine::Control;
@@ -17,12 +18,14 @@ mod machine;
 pub mod step;
 
 // What a run leaves beside lent words: the running level and the control words 1 to 9, 26 and 27 with the devices, the
-// steps taken, the interrupt that the last of them gave, or 0 (promised of a run of one step), and why the run ended.
+// steps taken, the interrupt that the last of them gave, or 0 (promised of a run of one step), their references, and
+// why the run ended.
 pub struct RunEnd {
     pub level: u16,
     pub control: Control,
     pub steps: u64,
     pub gave: u16,
+    pub references: u64,
     pub reason: Reason,
 }
 
@@ -43,13 +46,13 @@ pub fn run(
     requires { ⌜ (length (now regs) ≡ registerWords) × (length (now pcrs) ≡ levelCount) ⌝ }
     requires { ⌜ length (now tables) ≡ tableWords ⌝ }
     ensures { λ r. ⌜ r .level < levelCount ⌝ }
-    ensures { λ r. ⌜ ended (r .reason) (r .steps)
+    ensures { λ r. ⌜ ranWith (r .references) (r .reason) (r .steps)
         (stateWith (r .level) (r .control) (now (regs .exit)) (now (pcrs .exit))) (now (mem .exit)) (now (tables .exit))
         ≡ runFrom first n 0 (stateWith level k (now (regs .entry)) (now (pcrs .entry))) (now (mem .entry))
         (now (tables .entry)) ⌝ }
     ensures { λ r. ⌜ (n ≡ 1 → first ≡ false
-        → turn (stateWith (r .level) (r .control) (now (regs .exit)) (now (pcrs .exit))) (r .gave) (now (mem .exit))
-        (now (tables .exit))
+        → turnWith (r .references) (stateWith (r .level) (r .control) (now (regs .exit)) (now (pcrs .exit))) (r .gave)
+        (now (mem .exit)) (now (tables .exit))
         ≡ step (stateWith level k (now (regs .entry)) (now (pcrs .entry))) (now (mem .entry)) (now (tables .entry))) ⌝ }
 {
     let c = opened(level, k, regs, pcrs);
@@ -63,6 +66,7 @@ pub fn run(
         control: control,
         steps: r.steps,
         gave: r.gave,
+        references: r.references,
         reason: reason,
     }
 }

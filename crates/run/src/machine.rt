@@ -8,32 +8,42 @@ ghost use lib.ListN.{length};
 ghost use Rattle.word_class.specs.Classes.{Sorts};
 ghost use Rattle.isa.specs.Machine.{pack};
 ghost use Rattle.isa.specs.Run.{runFrom};
-ghost use Rattle.isa.specs.Step.{step, turn};
+ghost use Rattle.isa.specs.Step.{step};
 ghost use Rattle.levels.specs.Changes.{dueAt};
-ghost use Rattle.run.specs.Runs.{loopRun, reasonAtRest};
+ghost use Rattle.run.specs.Runs.{loopRun, turnWith, reasonAtRest};
 use isa::answer::Reason;
 use isa::machine::Control;
 use isa::machine::Core;
 use levels::change::change_due;
 use run_slice::advance;
 
-// The running level, its words, the steps taken, the interrupt that the last of them gave, or 0, and why the run ended.
+// The running level, its words, the steps taken, the interrupt that the last of them gave, or 0, their references, and
+// why the run ended.
 pub struct LoopEnd {
     pub level: u16,
     pub core: Core,
     pub steps: u64,
     pub gave: u16,
+    pub references: u64,
     pub reason: Reason,
 }
 
-fn ended(level: u16, core: Core, steps: u64, gave: u16, reason: Reason) -> LoopEnd
-    ensures { λ r. ⌜ r ≡ record { level = level; core = core; steps = steps; gave = gave; reason = reason } ⌝ }
+fn ended(level: u16, core: Core, steps: u64, gave: u16, references: u64, reason: Reason) -> LoopEnd
+    ensures { λ r. ⌜ r ≡ record {
+      level = level;
+      core = core;
+      steps = steps;
+      gave = gave;
+      references = references;
+      reason = reason;
+    } ⌝ }
 {
     LoopEnd {
         level: level,
         core: core,
         steps: steps,
         gave: gave,
+        references: references,
         reason: reason,
     }
 }
@@ -93,30 +103,39 @@ pub fn run_in(
         ≡ runFrom first n 0 (pack start c (now (regs .entry)) (now (pcrs .entry))) (now (mem .entry))
         (now (tables .entry)) ⌝ }
     ensures { λ r. ⌜ (n ≡ 1 → first ≡ false
-        → turn (pack (r .level) (r .core) (now (regs .exit)) (now (pcrs .exit))) (r .gave) (now (mem .exit))
-        (now (tables .exit)) ≡ step (pack start c (now (regs .entry)) (now (pcrs .entry))) (now (mem .entry))
-        (now (tables .entry))) ⌝ }
+        → turnWith (r .references) (pack (r .level) (r .core) (now (regs .exit)) (now (pcrs .exit))) (r .gave)
+        (now (mem .exit)) (now (tables .exit))
+        ≡ step (pack start c (now (regs .entry)) (now (pcrs .entry))) (now (mem .entry)) (now (tables .entry))) ⌝ }
 {
     let mut level = start;
     let mut core = c;
     let mut steps: u64 = 0;
     let mut gave: u16 = 0;
+    let mut references: u64 = 0;
     while steps < n {
         let k = core.control;
         if k.stopped == 1 {
-            return ended(level, core, steps, gave, Reason::Stopped);
+            return ended(level, core, steps, gave, references, Reason::Stopped);
         }
         if level_ends(first, level, k) {
-            return ended(level, core, steps, gave, Reason::Level);
+            return ended(level, core, steps, gave, references, Reason::Level);
         }
         let out = advance(classes, level, core, regs, pcrs, mem, tables, n - steps);
         level = out.level;
         core = out.core;
         gave = out.gave;
+        references = std::num::wrapping_add_u64(references, out.references);
         steps = steps + out.before + 1;
         if interrupt_ends(first, gave) {
-            return ended(level, core, steps, gave, Reason::Interrupt);
+            return ended(level, core, steps, gave, references, Reason::Interrupt);
         }
     }
-    ended(level, core, steps, gave, at_rest(first, level, core))
+    ended(
+        level,
+        core,
+        steps,
+        gave,
+        references,
+        at_rest(first, level, core),
+    )
 }

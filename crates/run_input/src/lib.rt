@@ -5,7 +5,8 @@ ghost use mathlib.Core.Bool.{true};
 ghost use Prim.Native.Nat.{ℕ, _-_, _<_, _≤_};
 ghost use lib.ListN.{length, take, set};
 ghost use Rattle.word_class.specs.Classes.{Sorts};
-ghost use Rattle.isa.specs.Run.{ended, runFrom};
+ghost use Rattle.isa.specs.Run.{countedRun, runFrom};
+ghost use Rattle.run.specs.Runs.{ranWith};
 ghost use Rattle.isa.specs.DeviceInput.{isSpent, givenOf, inputRunFrom};
 ghost use Rattle.run_input.specs.Inputs.{endRun, onto};
 use devices::handed::hand_in;
@@ -16,11 +17,12 @@ use run::RunEnd;
 use run::run;
 
 // What a run leaves beside lent words: the running level, the control words 1 to 9, 26 and 27 with the devices, the
-// steps taken, the inputs handed in, and why the run ended.
+// steps taken and their references, the inputs handed in, and why the run ended.
 pub struct InputEnd {
     pub level: u16,
     pub control: Control,
     pub steps: u64,
+    pub references: u64,
     pub handed: usize,
     pub reason: Reason,
 }
@@ -35,7 +37,7 @@ fn to_go(from: u64, to: u64) -> u64
     0
 }
 
-// A run that has taken `from` steps goes on to its step `to`.
+// A run that has taken `from` steps, with so many references, goes on to its step `to`.
 fn run_on(
     classes: &[u8],
     level: u16,
@@ -46,16 +48,17 @@ fn run_on(
     tables: &mut [u16],
     from: u64,
     to: u64,
+    references: u64,
 ) -> RunEnd
     requires { ⌜ Sorts (now classes) ⌝ }
     requires { ⌜ level < levelCount ⌝ }
     requires { ⌜ (length (now regs) ≡ registerWords) × (length (now pcrs) ≡ levelCount) ⌝ }
     requires { ⌜ length (now tables) ≡ tableWords ⌝ }
     ensures { λ r. ⌜ r .level < levelCount ⌝ }
-    ensures { λ r. ⌜ ended (r .reason) (r .steps)
+    ensures { λ r. ⌜ ranWith (r .references) (r .reason) (r .steps)
         (stateWith (r .level) (r .control) (now (regs .exit)) (now (pcrs .exit))) (now (mem .exit)) (now (tables .exit))
-        ≡ runFrom true (to - from) from (stateWith level k (now (regs .entry)) (now (pcrs .entry)))
-        (now (mem .entry)) (now (tables .entry)) ⌝ }
+        ≡ countedRun references (runFrom true (to - from) from
+        (stateWith level k (now (regs .entry)) (now (pcrs .entry))) (now (mem .entry)) (now (tables .entry))) ⌝ }
 {
     let mut r = run(
         classes,
@@ -69,6 +72,7 @@ fn run_on(
         true,
     );
     r.steps = from + r.steps;
+    r.references = std::num::wrapping_add_u64(references, r.references);
     r
 }
 
@@ -89,6 +93,7 @@ fn end_of(r: RunEnd, handed: usize) -> InputEnd
       level = r .level;
       control = r .control;
       steps = r .steps;
+      references = r .references;
       handed = handed;
       reason = r .reason;
     } ⌝ }
@@ -99,6 +104,7 @@ fn end_of(r: RunEnd, handed: usize) -> InputEnd
         level: r.level,
         control: k,
         steps: r.steps,
+        references: r.references,
         handed: handed,
         reason: w,
     }
@@ -153,15 +159,38 @@ pub fn run_with_input(
     let mut level = start;
     let mut control = k;
     let mut steps: u64 = 0;
+    let mut references: u64 = 0;
     let mut i: usize = 0;
     while i < count {
         let due = at[i];
         let word = what[i];
         if n < due {
-            let last = run_on(classes, level, control, regs, pcrs, mem, tables, steps, n);
+            let last = run_on(
+                classes,
+                level,
+                control,
+                regs,
+                pcrs,
+                mem,
+                tables,
+                steps,
+                n,
+                references,
+            );
             return end_of(last, i);
         }
-        let r = run_on(classes, level, control, regs, pcrs, mem, tables, steps, due);
+        let r = run_on(
+            classes,
+            level,
+            control,
+            regs,
+            pcrs,
+            mem,
+            tables,
+            steps,
+            due,
+            references,
+        );
         let w = r.reason;
         if is_spent(w) {
             let now = r.control;
@@ -170,11 +199,23 @@ pub fn run_with_input(
             control = h.control;
             level = r.level;
             steps = r.steps;
+            references = r.references;
             i += 1;
         } else {
             return end_of(r, i);
         }
     }
-    let last = run_on(classes, level, control, regs, pcrs, mem, tables, steps, n);
+    let last = run_on(
+        classes,
+        level,
+        control,
+        regs,
+        pcrs,
+        mem,
+        tables,
+        steps,
+        n,
+        references,
+    );
     end_of(last, i)
 }

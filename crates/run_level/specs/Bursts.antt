@@ -1,14 +1,14 @@
 -- Steps of the level alone, as the run's definition has them.
 use Rattle.isa.specs.Machine.{levelCount, registerWords}
-use Prim.Native.Nat.{ℕ, suc, _+_, _-_, _<_}
+use Prim.Native.Nat.{ℕ, suc, _+_, _-_, _%_, _<_}
 use mathlib.Core.Path.{_≡_}
 use mathlib.Core.Bool.{Bool, false}
 use mathlib.Core.List.{List}
 use lib.ListN.{length}
 use lib.Dec.{eqb}
 use Rattle.isa.specs.Machine.{pack}
-use Rattle.isa.specs.Step.{Part, Turn, farStage, stepIn}
-use Rattle.isa.specs.Run.{Run, afterStep, runFrom}
+use Rattle.isa.specs.Step.{Part, Turn, counted, countedTurn, farStage, stepIn}
+use Rattle.isa.specs.Run.{Run, sumRange, afterStep, runFrom}
 use Rattle.isa.specs.declared.machine.Control.{Control}
 use Rattle.isa.specs.declared.machine.File.{File}
 use Rattle.event.specs.Events.{eventPart}
@@ -30,15 +30,26 @@ pub record Executes (l : ℕ) (k : Control) : Type 0 where
 -- what a step of the level l leaves of the machine whose other words are regs and pcrs
 abbrev pub leaves : ℕ → List ℕ → List ℕ → Part → Turn
 leaves l regs pcrs r =
-    farStage (pack l (r .near .core) regs pcrs) (r .near .gave) (r .memory) (r .tables) (r .near .far)
+    countedTurn (r .near .references)
+    (farStage (pack l (r .near .core) regs pcrs) (r .near .gave) (r .memory) (r .tables) (r .near .far))
+
+-- .. with the low 64 bits of its references
+abbrev pub lowTurn : Turn → Turn
+lowTurn r = record {
+  state = r .state;
+  gave = r .gave;
+  memory = r .memory;
+  tables = r .tables;
+  references = r .references % sumRange;
+}
 
 -- a run of n more steps, after j, goes on behind its next steps, of which `before` gave nothing and the last left r
 abbrev pub goesOn : Bool → ℕ → ℕ → ℕ → Turn → Run
 goesOn first n j before r = afterStep first (runFrom first (n - suc before)) (j + before) r
 
--- what a burst leaves of the level
+-- what a burst leaves of the level; the references of all its steps are told with the last
 abbrev pub burstPart : ℕ → Control → Burst → List ℕ → List ℕ → Part
-burstPart l k b m t = eventPart l (levelCore (b .file) (b .pcr) k) m t (b .event)
+burstPart l k b m t = counted (b .references) (eventPart l (levelCore (b .file) (b .pcr) k) m t (b .event))
 
 -- in every machine whose level has these registers and PCR and these switches for paging and extended mode
 abbrev pub QuietSteps : File → ℕ → ℕ → ℕ → List ℕ → List ℕ → ℕ → Burst → List ℕ → List ℕ → Type 0

@@ -14,24 +14,33 @@ use isa::machine::File;
 use paging::rights::level_rights;
 use paging::rights::on_ring;
 
-// The file and the PCR after the last step, the steps before it, and how it ended.
+// The file and the PCR after the last step, the steps before it, how it ended, and the references of all of them, their
+// sum's low 64 bits.
 pub struct Burst {
     pub file: File,
     pub pcr: u16,
     pub before: u64,
     pub event: Event,
+    pub references: u64,
 }
 
 // p is the PCR that the level began with, ring the ring that it has now.
-fn burst_of(file: File, p: u16, ring: u32, before: u64, event: Event) -> Burst
+fn burst_of(file: File, p: u16, ring: u32, before: u64, event: Event, references: u64) -> Burst
     requires { ⌜ ring < 4 ⌝ }
-    ensures { λ b. ⌜ b ≡ record { file = file; pcr = loweredPcr p ring; before = before; event = event } ⌝ }
+    ensures { λ b. ⌜ b ≡ record {
+      file = file;
+      pcr = loweredPcr p ring;
+      before = before;
+      event = event;
+      references = references;
+    } ⌝ }
 {
     Burst {
         file: file,
         pcr: p / 4 * 4 + ring as u16,
         before: before,
         event: event,
+        references: references,
     }
 }
 
@@ -61,16 +70,18 @@ pub fn quiet_steps(
     let mut ring = base.ring;
     let mut left = n;
     let mut page = no_page();
+    let mut references: u64 = 0;
     while 0 < left {
         let s = step_in(classes, file, on_ring(base, ring), page, mem, tables);
         let event = s.event;
         file = s.file;
         ring = s.ring;
         page = s.page;
+        references = std::num::wrapping_add_u64(references, s.references);
         if event::ends(event) {
-            return burst_of(file, p, ring, n - left, event);
+            return burst_of(file, p, ring, n - left, event, references);
         }
         left -= 1;
     }
-    burst_of(file, p, ring, n - 1, Event::Fine)
+    burst_of(file, p, ring, n - 1, Event::Fine, references)
 }

@@ -11,11 +11,11 @@ use Rattle.isa.specs.declared.machine.Core.{Core}
 use Rattle.isa.specs.declared.machine.State.{State}
 use Rattle.levels.specs.Changes.{dueAt, advancedTurn}
 use Rattle.levels.specs.declared.change.Advanced.{Advanced}
-use Rattle.run_level.specs.Bursts.{Levels, Executes, leaves, goesOn, burstPart, QuietSteps, QuietStep}
+use Rattle.run_level.specs.Bursts.{Levels, Executes, leaves, lowTurn, goesOn, burstPart, QuietSteps, QuietStep}
 use Rattle.run_level.specs.declared.Burst.{Burst}
 use Rattle.run_level.proofs.Laws.{one-step}
 use Rattle.run_slice.specs.Advances.{Advance}
-use Rattle.run_slice.proofs.Laws.{next-step, level-step}
+use Rattle.run_slice.proofs.Laws.{next-step, level-step, goes-on-low, step-low}
 
 -- its answer for the machine s, which is left as the turn r
 abbrev pub Answered : State → List ℕ → List ℕ → ℕ → Advanced → Turn → Type 0
@@ -40,9 +40,15 @@ pub advance-burst : (l : ℕ) (c : Core) (regs pcrs m t m' t' : List ℕ) (n : �
     → QuietSteps (c .file) (c .pcr) (c .control .paging) (c .control .extended) m t n b m' t'
     → QuietStep (c .file) (c .pcr) (c .control .paging) (c .control .extended) m t b m' t'
     → a .before ≡ b .before
-    → r ≡ leaves l regs pcrs (burstPart l (c .control) b m' t')
+    → r ≡ lowTurn (leaves l regs pcrs (burstPart l (c .control) b m' t'))
     → Advance (pack l c regs pcrs) m t n a r × (a .before ≡ 0 → step (pack l c regs pcrs) m t ≡ r)
-advance-burst l c regs pcrs m t m' t' n b a r x v qs q z e = (
-  λ first j f. qs first l j (c .control) regs pcrs refl refl x v ∙ (λ i. goesOn first n j (sym z i) (sym e i)),
-  λ y. one-step l c regs pcrs m t x v ∙ ap (leaves l regs pcrs) (q (sym z ∙ y) l (c .control) refl refl) ∙ sym e,
-)
+advance-burst l c regs pcrs m t m' t' n b a r x v qs q z e =
+    let left = leaves l regs pcrs (burstPart l (c .control) b m' t') in (
+      λ first j f. qs first l j (c .control) regs pcrs refl refl x v
+          ∙ sym (goes-on-low first n j (b .before) left)
+          ∙ (λ i. goesOn first n j (sym z i) (sym e i)),
+      λ y.
+          let same : step (pack l c regs pcrs) m t ≡ left =
+          one-step l c regs pcrs m t x v ∙ ap (leaves l regs pcrs) (q (sym z ∙ y) l (c .control) refl refl) in
+          sym (step-low (pack l c regs pcrs) m t) ∙ ap lowTurn same ∙ sym e,
+    )

@@ -9,7 +9,7 @@ ghost use Rattle.word_class.specs.Classes.{Sorts};
 ghost use Rattle.isa.specs.Machine.{pack};
 ghost use Rattle.isa.specs.Step.{step};
 ghost use Rattle.levels.specs.Changes.{advancedTurn};
-ghost use Rattle.run_level.specs.Bursts.{Levels, leaves, burstPart};
+ghost use Rattle.run_level.specs.Bursts.{Levels, leaves, lowTurn, burstPart};
 ghost use Rattle.run_slice.specs.Advances.{Advance};
 use isa::machine::Control;
 use isa::machine::Core;
@@ -21,7 +21,7 @@ use run_level::Burst;
 use run_level::quiet_steps;
 use trap::after_event;
 
-// What is left of the last step of a burst.
+// What is left of the last step of a burst; its references are added to the burst's.
 fn settled(
     level: u16,
     b: Burst,
@@ -35,8 +35,8 @@ fn settled(
     requires { ⌜ length (now tables) ≡ tableWords ⌝ }
     ensures { λ r. ⌜ (r .level ≡ level) × (r .before ≡ b .before) ⌝ }
     ensures { λ r. ⌜ advancedTurn r (now (regs .exit)) (now (pcrs .exit)) (now (mem .exit)) (now (tables .exit))
-        ≡ leaves level (now (regs .entry)) (now (pcrs .entry))
-        (burstPart level k b (now (mem .entry)) (now (tables .entry))) ⌝ }
+        ≡ lowTurn (leaves level (now (regs .entry)) (now (pcrs .entry))
+        (burstPart level k b (now (mem .entry)) (now (tables .entry)))) ⌝ }
 {
     let f = b.file;
     let e = b.event;
@@ -46,7 +46,10 @@ fn settled(
         control: k,
     };
     let n = after_event(level, c, mem, tables, e);
-    settle(level, b.before, n, regs, pcrs, mem, tables)
+    let made = std::num::wrapping_add_u64(b.references, n.references as u64);
+    let mut r = settle(level, b.before, n, regs, pcrs, mem, tables);
+    r.references = std::num::wrapping_add_u64(made, r.references);
+    r
 }
 
 // At most n steps, one or more, of a machine that is not stopped: a change of level, or a burst.

@@ -2,9 +2,9 @@
 ghost use Rattle.isa.specs.Machine.{levelCount, tableWords};
 ghost use mathlib.Core.Path.{_≡_};
 ghost use mathlib.Core.List.{List};
-ghost use Prim.Native.Nat.{ℕ, _<_};
+ghost use Prim.Native.Nat.{ℕ, _+_, _^_, _<_};
 ghost use lib.ListN.{length};
-ghost use Rattle.isa.specs.Step.{faulted, failed, trapped, part, examined, deposited, systemStage};
+ghost use Rattle.isa.specs.Step.{counted, faulted, failed, trapped, part, examined, deposited, systemStage};
 ghost use Rattle.isa.specs.Step.{physicalAddress, transferStage};
 ghost use Rattle.isa.specs.Machine.{reg};
 ghost use Rattle.isa.specs.declared.machine.Register.the-variants.{T};
@@ -46,6 +46,22 @@ fn left(c: Core, gave: u16, far: Far) -> Near
         core: c,
         gave: gave,
         far: far,
+        references: 0,
+    }
+}
+
+// The same after n references.
+fn counted(n: u32, r: Near) -> Near
+    requires { ⌜ n + r .references < 2 ^ 32 ⌝ }
+    ensures { λ q. ⌜ ((m t : List ℕ) → nearPart q m t ≡ counted n (nearPart r m t)) ⌝ }
+{
+    let core = r.core;
+    let far = r.far;
+    Near {
+        core: core,
+        gave: r.gave,
+        far: far,
+        references: n + r.references,
     }
 }
 
@@ -87,13 +103,13 @@ fn examined(c: Core, mem: &[u16], tables: &[u16]) -> Near
     requires { ⌜ length (now tables) ≡ tableWords ⌝ }
     ensures { λ n. ⌜ ((t : List ℕ) → nearPart n (now (mem .entry)) t ≡ examined c (now (mem .entry)) t) ⌝ }
 {
-    let x = physical(mem.len(), AccessKind::Read, physical_address(c));
-    if fault_of(x) == 0 {
+    let from = physical(mem.len(), AccessKind::Read, physical_address(c));
+    if fault_of(from) == 0 {
         let f = c.file;
-        let g = f.with(Register::T, word_at(mem, tables, x));
-        return left(c.with_file(g), 0, Far::Nothing);
+        let g = f.with(Register::T, word_at(mem, tables, from));
+        return counted(1, left(c.with_file(g), 0, Far::Nothing));
     }
-    failed(c, x)
+    counted(1, failed(c, from))
 }
 
 fn deposited(c: Core, mem: &mut [u16], tables: &mut [u16]) -> Near
@@ -101,13 +117,13 @@ fn deposited(c: Core, mem: &mut [u16], tables: &mut [u16]) -> Near
     ensures { λ n. ⌜ nearPart n (now (mem .exit)) (now (tables .exit))
         ≡ deposited c (now (mem .entry)) (now (tables .entry)) ⌝ }
 {
-    let x = physical(mem.len(), AccessKind::Write, physical_address(c));
-    if fault_of(x) == 0 {
+    let to = physical(mem.len(), AccessKind::Write, physical_address(c));
+    if fault_of(to) == 0 {
         let f = c.file;
-        store_at(mem, tables, x, f.get(Register::T));
-        return left(c, 0, Far::Nothing);
+        store_at(mem, tables, to, f.get(Register::T));
+        return counted(1, left(c, 0, Far::Nothing));
     }
-    failed(c, x)
+    counted(1, failed(c, to))
 }
 
 // LDATX to STDTX.
@@ -122,9 +138,9 @@ fn transferred(c: Core, mem: &mut [u16], tables: &mut [u16], o: Transfer, d: u16
     let x = r.fault;
     let g = r.file;
     if fault_of(x) == 0 {
-        return left(c.with_file(g), 0, Far::Nothing);
+        return counted(r.made, left(c.with_file(g), 0, Far::Nothing));
     }
-    failed(c, x)
+    counted(r.made, failed(c, x))
 }
 
 // IOX, IOXT and IDENT: what a device answers, or interrupt 7.

@@ -67,6 +67,9 @@ returns-2 c =
 moved-requires : tie.Need-moved-requires
 moved-requires c κs = search needs
 
+words-of-requires : tie.Need-words-of-requires
+words-of-requires c κs = search needs
+
 same-length : tie.Need-same-length
 same-length c = search needs
 
@@ -76,7 +79,7 @@ same-length-2 c = search needs
 -- both pass
 returns-3 : tie.Need-returns-3
 returns-3 c =
-    let moving = c .before .before .before .before in
+    let moving = c .before .before .before .before .before in
     let tested-next = moving .before .before .before .before in
     let tested = tested-next .before .before in
     let placed = tested .before in
@@ -86,7 +89,7 @@ returns-3 c =
     (passes-zero (placed .before .physical-place .result) (tested .fault-of .ensures) (tested-next .before .if1 .left))
     (passes-zero (placed .second-place .result) (tested-next .fault-of2 .ensures)
     (moving .before .before .before .if2 .left))
-    (moving .moved .ensures .0) (moving .moved .ensures .1)
+    (moving .moved .ensures .0) (moving .moved .ensures .1) (c .words-of .ensures)
 
 pub transfer-spec : {M : Type 1} → statement M
 transfer-spec =
@@ -101,6 +104,7 @@ transfer-spec =
     fault-of-requires-2
     returns-2
     moved-requires
+    words-of-requires
     same-length
     same-length-2
     returns-3)

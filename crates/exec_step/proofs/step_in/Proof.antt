@@ -94,16 +94,27 @@ privileged-requires c κs = search needs
 by-privilege-requires : tie.Need-by-privilege-requires
 by-privilege-requires c κs = search needs
 
+cast-t29 : tie.Need-cast-t29
+cast-t29 c = search needs
+
+add-t30 : tie.Need-add-t30
+add-t30 c = search needs
+
 same-length : tie.Need-same-length
 same-length c = search needs
 
+-- the tables keep their size in fetch and instruction
 same-length-2 : tie.Need-same-length-2
-same-length-2 c = search needs
+same-length-2 c =
+    let done = executed (c .before) in
+    let tested = passed (done .before .before .before .before) .before in
+    done .executed-word .kept .1 .1 .1 .1 .1 .0 ∙ fetching tested .fetch .kept .1 .1 .1 .1 .0
 
 -- it passed
 returns : tie.Need-returns
 returns c =
-    let done = executed c in
+    let ended = c .before in
+    let done = executed ended in
     let next = done .before .before .before in
     let on = next .before in
     let tested = passed on .before in
@@ -123,8 +134,8 @@ returns c =
     ∙ passes-zero (g .place) (tested .fault-of .ensures) (passed on .if1 .taken) in
     let page = (simp p at (fetching tested .fetch .ensures .1 .0))
     ∙ ap (pageNext (length (a .mem .now)) rights (a .k) (reg (a .f) P)) (found .place) in
-    let kept : isFine (c .by-privilege .result) ≡ true → Kept (length (a .mem .now)) rights (g .page) _ = λ fine.
-    let own = subst (λ (x : Event). isFine x ≡ true) (c .by-privilege .ensures) fine in
+    let kept : isFine (ended .by-privilege .result) ≡ true → Kept (length (a .mem .now)) rights (g .page) _ = λ fine.
+    let own = subst (λ (x : Event). isFine x ≡ true) (ended .by-privilege .ensures) fine in
     word-keeps (length (a .mem .now)) (a .f) rights (g .page) (g .word) _ _ (e .result) _ _
     (start .pre .1 .0) word alone (fine-before _ (e .result .event) own)
     (fetching tested .fetch .ensures .1 .1) in (
@@ -132,7 +143,7 @@ returns c =
       (
         step-passed (fetched tested) (g .ring) (g .word) (g .page) (e .result) _ _ (passed on .if1 .taken)
             (start .pre .1 .1 .0) (found .ring)
-            (c .before .privileged .ensures ∙ ap privilegedBy (on .on-ring .ensures)) (c .by-privilege .ensures)
+            (ended .before .privileged .ensures ∙ ap privilegedBy (on .on-ring .ensures)) (ended .by-privilege .ensures)
             (found .word) word,
         (
           rw passes-is page,
@@ -181,6 +192,8 @@ step-in-spec =
     executed-word-requires
     privileged-requires
     by-privilege-requires
+    cast-t29
+    add-t30
     same-length
     same-length-2
     returns

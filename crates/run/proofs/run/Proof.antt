@@ -2,8 +2,9 @@
 -- Assumes nothing.
 use mathlib.Core.Path.{_≡_, ap, _∙_}
 use Rattle.isa.specs.Machine.{stateWith, pack}
-use Rattle.isa.specs.Step.{turn, step}
-use Rattle.isa.specs.Run.{ended, runFrom}
+use Rattle.isa.specs.Step.{step}
+use Rattle.isa.specs.Run.{runFrom}
+use Rattle.run.specs.Runs.{ranWith, turnWith}
 use Rattle.isa.proofs.Packing.{pack-open}
 use Rattle.isa.specs.declared.machine.Core.{Core}
 use Rattle.isa.specs.declared.machine.State.{State}
@@ -70,10 +71,15 @@ returns c =
     λ i. stateWith (r .result .level) (r .result .core .control) (back .ensures .0 i) (back .ensures .1 i) in (
       r .ensures .0,
       (
-        ap (λ (x : State). ended (r .result .reason) (r .result .steps) x (after .1 .1 .0) (after .1 .1 .1 .0)) left
+        ap
+            (λ (x : State). ranWith (r .result .references) (r .result .reason) (r .result .steps) x (after .1 .1 .0)
+            (after .1 .1 .1 .0))
+            left
             ∙ r .ensures .1 .0
             ∙ ap (λ (x : State). runFrom (a .first) (a .n) 0 x m t) packed,
-        λ o f. ap (λ (x : State). turn x (r .result .gave) (after .1 .1 .0) (after .1 .1 .1 .0)) left
+        λ o f. ap
+            (λ (x : State). turnWith (r .result .references) x (r .result .gave) (after .1 .1 .0) (after .1 .1 .1 .0))
+            left
             ∙ r .ensures .1 .1 o f
             ∙ ap (λ (x : State). step x m t) packed,
       ),

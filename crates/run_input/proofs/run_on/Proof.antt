@@ -1,11 +1,12 @@
 -- The run of the steps to go, with those before it.
 -- Assumes nothing.
-use Prim.Native.Nat.{ℕ, _-_}
+use Prim.Native.Nat.{ℕ, _+_, _-_}
 use mathlib.Core.Path.{_≡_, sym, ap, _∙_}
 use mathlib.Core.Bool.{true}
 use native.Mathlib.Omega.{arith}
 use Rattle.isa.specs.Machine.{stateWith}
-use Rattle.isa.specs.Run.{Run, ended, runFrom}
+use Rattle.isa.specs.Run.{Run, countedRun, runFrom}
+use Rattle.run.specs.Runs.{ranWith}
 use Rattle.isa.proofs.Runs.{run-taken, run-shift, later}
 use borrow.Author.Needs.{needs}
 use Rattle.run_input.proofs.run_on.Statement.{statement}
@@ -27,8 +28,8 @@ started c =
 
 -- the run of the steps to go
 total : (c : tie.After-run) → let a = started c .args in let r = c .run .result in let left = c .run .last .1 .1 .1 in
-    ended (r .reason) (r .steps) (stateWith (r .level) (r .control) (left .0) (left .1 .0)) (left .1 .1 .0)
-    (left .1 .1 .1 .0)
+    ranWith (r .references) (r .reason) (r .steps) (stateWith (r .level) (r .control) (left .0) (left .1 .0))
+    (left .1 .1 .0) (left .1 .1 .1 .0)
     ≡ runFrom true (a .to - a .from) 0 (stateWith (a .level) (a .k) (a .regs .now) (a .pcrs .now)) (a .mem .now)
     (a .tables .now)
 total c =
@@ -53,6 +54,9 @@ add-r c =
     let steps = ap (λ (r : Run). r .steps) (total ran) in
     record { fits = omega (arith, most, steps, started ran .fits .from, started ran .fits .to) }
 
+wrapping-add-u64-requires : tie.Need-wrapping-add-u64-requires
+wrapping-add-u64-requires c κs = search needs
+
 same-length : tie.Need-same-length
 same-length c = search needs
 
@@ -67,12 +71,19 @@ same-length-4 c = search needs
 
 returns : tie.Need-returns
 returns c =
-    let ran = after c in
+    let ran = after (c .before) in
     let a = started ran .args in
-    let s = stateWith (a .level) (a .k) (a .regs .now) (a .pcrs .now) in (
+    let s = stateWith (a .level) (a .k) (a .regs .now) (a .pcrs .now) in
+    let r = ran .run .result in
+    let left = ran .run .last .1 .1 .1 in
+    let at : ℕ → Run = λ g.
+    ranWith g (r .reason) (a .from + r .steps) (stateWith (r .level) (r .control) (left .0) (left .1 .0))
+    (left .1 .1 .0) (left .1 .1 .1 .0) in (
       ran .run .ensures .0,
-      ap (later (a .from)) (total ran)
-          ∙ sym (run-shift true (a .to - a .from) (a .from) s (a .mem .now) (a .tables .now)),
+      ap at (c .wrapping-add-u64 .ensures)
+          ∙ ap (λ (y : Run). countedRun (a .references) (later (a .from) y)) (total ran)
+          ∙ ap (countedRun (a .references))
+          (sym (run-shift true (a .to - a .from) (a .from) s (a .mem .now) (a .tables .now))),
     )
 
 pub run-on-spec : {M : Type 1} → statement M
@@ -82,6 +93,7 @@ run-on-spec =
     to-go-requires
     run-requires
     add-r
+    wrapping-add-u64-requires
     same-length
     same-length-2
     same-length-3

@@ -15,16 +15,16 @@ use Rattle.run_input.proofs.run_with_input.Statement.{statement}
 use Rattle.run_input.proofs.run_with_input.Tie as tie
 
 abbrev Inv-loop : tie.InvT-loop
-Inv-loop classes start regs₀ pcrs₀ mem₀ tables₀ n at what told₀ count level₀ control₀ steps₀ i₀ regs pcrs mem tables
-    told level control steps i =
+Inv-loop classes start regs₀ pcrs₀ mem₀ tables₀ n at what told₀ count level₀ control₀ steps₀ references₀ i₀ regs pcrs
+    mem tables told level control steps references i =
     Stands n (givenOf (take (length told₀) at) what) (stateWith start control₀ regs₀ pcrs₀) mem₀ tables₀ told₀ i steps
-    (stateWith level control regs pcrs) mem tables told
+    references (stateWith level control regs pcrs) mem tables told
     × ((level < levelCount) × ((i ≤ count) × ((length regs ≡ length regs₀)
     × ((length pcrs ≡ length pcrs₀) × ((length mem ≡ length mem₀) × (length tables ≡ length tables₀))))))
 
 abbrev μ-loop : tie.MeasureT-loop
-μ-loop classes start regs₀ pcrs₀ mem₀ tables₀ n at what told₀ count level₀ control₀ steps₀ i₀ regs pcrs mem tables
-    told level control steps i =
+μ-loop classes start regs₀ pcrs₀ mem₀ tables₀ n at what told₀ count level₀ control₀ steps₀ references₀ i₀ regs pcrs
+    mem tables told level control steps references i =
     count - i
 
 -- ---- places: the run to an input's step or to the end, the tests before it, the loop, the start

@@ -9,6 +9,7 @@ use native.Mathlib.Nat.{le-refl}
 use lib.ListN.{length}
 use borrow.Author.Needs.{needs}
 use borrow.Author.Tests.{not-false}
+use Rattle.isa.specs.Run.{sumRange}
 use Rattle.isa.specs.declared.access.Rights.{Rights}
 use Rattle.isa.specs.declared.machine.File.{File}
 use Rattle.event.specs.Events.{isFine}
@@ -30,19 +31,21 @@ begun f p m t = record { file = f; pcr = p; memory = m; tables = t }
 
 -- n - left quiet steps lead from there to where the level stands, with the page that is kept
 abbrev Inv-loop : tie.InvT-loop
-Inv-loop classes p paging extended mem₀ tables₀ n base file₀ ring₀ left₀ page₀ mem tables file ring left page =
-    (Quiet paging extended n (begun file₀ p mem₀ tables₀) (n - left) (levelOn file p ring mem tables))
+Inv-loop classes p paging extended mem₀ tables₀ n base file₀ ring₀ left₀ page₀ references₀ mem tables file ring left
+    page references =
+    (Quiet paging extended n (begun file₀ p mem₀ tables₀) (n - left) (levelOn file p ring mem tables) references)
     × (((left ≤ n) × (ring < 4))
     × (((length mem ≡ length mem₀) × (length tables ≡ length tables₀))
     × Kept (length mem) (onRing base ring) page tables))
 
 abbrev μ-loop : tie.MeasureT-loop
-μ-loop classes p paging extended mem₀ tables₀ n base file₀ ring₀ left₀ page₀ mem tables file ring left page = left
+μ-loop classes p paging extended mem₀ tables₀ n base file₀ ring₀ left₀ page₀ references₀ mem tables file ring left
+    page references = left
 
 -- ---- places: the step before its event was asked for; the loop's test before the step; the function's start
 
 abbrev stepping : tie.After-ends Inv-loop μ-loop → tie.After-step-in Inv-loop μ-loop
-stepping c = let lent = c .before .before .before .before in lent .before .before .before
+stepping c = let lent = c .before .before .before .before .before in lent .before .before .before
 
 abbrev testing : tie.After-step-in Inv-loop μ-loop → tie.In-loop Inv-loop μ-loop
 testing c = c .before .before .before .before
@@ -66,7 +69,7 @@ there c =
 -- the code's step is one of the level
 one : (c : tie.After-step-in Inv-loop μ-loop)
     → Steps (started (testing c) .args .paging) (started (testing c) .args .extended) (here c) (there c)
-    (c .step-in .result .event)
+    (c .step-in .result .references) (c .step-in .result .event)
 one c =
     let tested = testing c in
     let l = tested .before .loop in
@@ -90,6 +93,10 @@ page-left c fine =
     (s .last .1 .1 .1 .1 .1 .0))
     (c .before .before .before .on-ring .ensures)
     (s .ensures .1 .1 .1 fine)
+
+-- a step's references have 64 bits
+few : (c : tie.After-step-in Inv-loop μ-loop) → c .step-in .result .references < sumRange
+few c = search needs
 
 fewer : (c : tie.In-loop Inv-loop μ-loop) → started c .args .n - c .before .loop .left < started c .args .n
 fewer c = omega (arith, c .loop-test .taken, c .before .loop .inv .1 .0 .0)
@@ -115,8 +122,8 @@ loop-holds c =
     ∙ ap (λ (r : Rights). levelOn (a .f) (a .p) (r .ring) (a .mem .now) (a .tables .now)) (sym rights) in
     let none : 0 ≡ a .n - a .n = omega arith in
     let ring : level .result .ring < 4 = rw rights (omega arith) in (
-      subst (λ (k : ℕ). Quiet (a .paging) (a .extended) (a .n) start k here) none
-          (subst (Quiet (a .paging) (a .extended) (a .n) start 0) own
+      subst (λ (k : ℕ). Quiet (a .paging) (a .extended) (a .n) start k here 0) none
+          (subst (λ (y : Level). Quiet (a .paging) (a .extended) (a .n) start 0 y 0) own
           (at-start (a .paging) (a .extended) (a .n) start)),
       (
         (le-refl _, ring),
@@ -153,6 +160,9 @@ step-in-requires c κs =
       ),
     )
 
+wrapping-add-u64-requires : tie.Need-wrapping-add-u64-requires Inv-loop μ-loop
+wrapping-add-u64-requires c κs = search needs
+
 ends-requires : tie.Need-ends-requires Inv-loop μ-loop
 ends-requires c κs = search needs
 
@@ -184,14 +194,15 @@ returns c =
     let a = started tested .args in
     let e : Event = s .step-in .result .event in
     let quiet = tested .before .loop .inv .0 in
+    let sum = c .before .before .before .wrapping-add-u64 .ensures in
     subst
     (Answered (a .f) (a .p) (a .paging) (a .extended) (a .mem .now) (a .tables .now) (a .n)
     (s .step-in .last .1 .1 .1 .1 .0) (s .step-in .last .1 .1 .1 .1 .1 .0))
     (sym (c .burst-of .ensures)) (
       fewer tested,
       (
-        then-ends quiet (fewer tested) (there s) e (one s),
-        λ z. first-step quiet (fewer tested) (there s) e (one s) z,
+        then-ends quiet (fewer tested) (few s) sum (there s) e (one s),
+        λ z. first-step quiet (fewer tested) (few s) sum (there s) e (one s) z,
       ),
     )
 
@@ -211,13 +222,15 @@ loop-again c =
     let e : Event = s .step-in .result .event in
     let well : isFine e ≡ true = not-false (isFine e) (sym (c .before .ends .ensures) ∙ c .if1 .left) in
     let fine : e ≡ Fine = fine-event e well in
-    let quiet : Steps (a .paging) (a .extended) (here s) (there s) Fine =
-    subst (Steps (a .paging) (a .extended) (here s) (there s)) fine (one s) in
+    let made = s .step-in .result .references in
+    let quiet : Steps (a .paging) (a .extended) (here s) (there s) made Fine =
+    subst (Steps (a .paging) (a .extended) (here s) (there s) made) fine (one s) in
+    let added = c .before .before .wrapping-add-u64 in
     let next : suc (a .n - l .left) ≡ a .n - (l .left - 1) = omega (arith, tested .loop-test .taken, l .inv .1 .0 .0) in
     let less : l .left - 1 ≤ a .n = omega (arith, l .inv .1 .0 .0) in
     let start : Level = begun (a .f) (a .p) (a .mem .now) (a .tables .now) in (
-      subst (λ (k : ℕ). Quiet (a .paging) (a .extended) (a .n) start k (there s)) next
-          (then-quiet (l .inv .0) (fewer tested) (there s) quiet),
+      subst (λ (k : ℕ). Quiet (a .paging) (a .extended) (a .n) start k (there s) (added .result)) next
+          (then-quiet (l .inv .0) (fewer tested) (few s) (added .ensures) (there s) quiet),
       (
         (less, s .step-in .ensures .0),
         (
@@ -253,8 +266,8 @@ returns-2 c =
     let d : Level = levelOn (l .file) (a .p) (l .ring) (l .mem) (l .tables) in
     let all : a .n - l .left ≡ a .n = omega (arith, c .before .loop-test .left) in
     let from : Level = begun (a .f) (a .p) (a .mem .now) (a .tables .now) in
-    let q : Quiet (a .paging) (a .extended) (a .n) from (a .n) d =
-    subst (λ (k : ℕ). Quiet (a .paging) (a .extended) (a .n) from k d) all (l .inv .0) in
+    let q : Quiet (a .paging) (a .extended) (a .n) from (a .n) d (l .references) =
+    subst (λ (k : ℕ). Quiet (a .paging) (a .extended) (a .n) from k d (l .references)) all (l .inv .0) in
     subst (Answered (a .f) (a .p) (a .paging) (a .extended) (a .mem .now) (a .tables .now) (a .n) (l .mem) (l .tables))
     (sym (c .burst-of2 .ensures))
     (omega (arith, start .pre .1 .1), (all-quiet q (start .pre .1 .1), λ z. the-only q (start .pre .1 .1) z))
@@ -270,6 +283,7 @@ quiet-steps-spec =
     loop-holds
     on-ring-requires
     step-in-requires
+    wrapping-add-u64-requires
     ends-requires
     sub-burst-of
     burst-of-requires

@@ -1,13 +1,14 @@
 -- The access passes if the address lies in memory.
 -- Assumes nothing.
 use mathlib.Core.Path.{_≡_, ap, _∙_}
+use native.Mathlib.Omega.{arith}
 use lib.ListN.{length}
 use Rattle.isa.specs.Pages.{withinMemory, Lent}
-use Rattle.isa.specs.Step.{part, physicalAddress, deposited}
+use Rattle.isa.specs.Step.{counted, part, physicalAddress, deposited}
 use Rattle.isa.specs.declared.access.AccessKind.the-variants.{Write}
 use Rattle.isa.specs.declared.answer.Far.the-variants.{Nothing}
 use Rattle.paging.proofs.Outcomes.{passes-zero, fails-other}
-use Rattle.trap.proofs.Laws.{place-within, in-memory, past-memory}
+use Rattle.trap.proofs.Laws.{unreferenced, place-within, in-memory, past-memory}
 use borrow.Author.Needs.{needs}
 use Rattle.trap.proofs.deposited.Statement.{statement}
 use Rattle.trap.proofs.deposited.Tie as tie
@@ -48,6 +49,9 @@ store-at-requires c κs =
 left-requires : tie.Need-left-requires
 left-requires c κs = search needs
 
+counted-requires : tie.Need-counted-requires
+counted-requires c κs = omega (arith, unreferenced _ (c .left .ensures))
+
 same-length : tie.Need-same-length
 same-length c = search needs
 
@@ -58,30 +62,34 @@ same-length-2 c = search needs
 returns : tie.Need-returns
 unfolding deposited
 returns c =
-    let lent = c .before .before .before .before in
+    let lent = c .before .before .before .before .before in
     let stored = lent .before in
     let got = stored .before in
     let i = got .before .before .before .before in
     let k = i .before .before in
     let q = in-memory _ Write _ (place k)
     (passes-zero (k .physical .result) (i .before .fault-of .ensures) (i .if1 .taken)) in
-    c .left .ensures _ _
+    c .counted .ensures _ _
+    ∙ ap (counted 1) (c .before .left .ensures _ _
     ∙ ap (λ (r : Lent). part (started k .args .c) 0 Nothing (r .memory) (r .tables))
     (stored .store-at .ensures)
-    ∙ simp (q .0, q .1, got .get .ensures)
+    ∙ simp (q .0, q .1, got .get .ensures))
 
 failed-requires : tie.Need-failed-requires
 failed-requires c κs = search needs
+
+counted-requires-2 : tie.Need-counted-requires-2
+counted-requires-2 c κs = omega (arith, unreferenced _ (c .failed .ensures))
 
 -- past it
 returns-2 : tie.Need-returns-2
 unfolding deposited
 returns-2 c =
-    let i = c .before in
+    let i = c .before .before in
     let k = i .before .before in
     let q = past-memory _ Write _ (place k)
     (fails-other (k .physical .result) (i .before .fault-of .ensures) (i .if1 .left)) in
-    c .failed .ensures _ _ ∙ simp (q .0, q .1)
+    c .counted2 .ensures _ _ ∙ ap (counted 1) (c .before .failed .ensures _ _ ∙ simp (q .0, q .1))
 
 pub deposited-spec : {M : Type 1} → statement M
 deposited-spec =
@@ -93,8 +101,10 @@ deposited-spec =
     get-requires
     store-at-requires
     left-requires
+    counted-requires
     same-length
     same-length-2
     returns
     failed-requires
+    counted-requires-2
     returns-2)

@@ -1,12 +1,13 @@
 -- The access passes if the address lies in memory.
 -- Assumes nothing.
 use mathlib.Core.Path.{_≡_, ap, _∙_}
+use native.Mathlib.Omega.{arith}
 use lib.ListN.{length}
 use Rattle.isa.specs.Pages.{withinMemory}
-use Rattle.isa.specs.Step.{physicalAddress, examined}
+use Rattle.isa.specs.Step.{counted, physicalAddress, examined}
 use Rattle.isa.specs.declared.access.AccessKind.the-variants.{Read}
 use Rattle.paging.proofs.Outcomes.{passes-zero, fails-other}
-use Rattle.trap.proofs.Laws.{place-within, in-memory, past-memory}
+use Rattle.trap.proofs.Laws.{unreferenced, place-within, in-memory, past-memory}
 use borrow.Author.Needs.{needs}
 use Rattle.trap.proofs.examined.Statement.{statement}
 use Rattle.trap.proofs.examined.Tie as tie
@@ -52,36 +53,44 @@ with-file-requires c κs = search needs
 left-requires : tie.Need-left-requires
 left-requires c κs = search needs
 
+counted-requires : tie.Need-counted-requires
+counted-requires c κs = omega (arith, unreferenced _ (c .left .ensures))
+
 -- within memory
 returns : tie.Need-returns
 unfolding examined
 returns c =
-    let got = c .before .before .before .before in
+    let put = c .before .before in
+    let got = put .before .before .before in
     let i = got .before in
     let k = i .before .before in
     let q = in-memory _ Read _ (place k)
     (passes-zero (k .physical .result) (i .before .fault-of .ensures) (i .if1 .taken)) in
-    λ t. c .left .ensures _ t
+    λ t. c .counted .ensures _ t
+    ∙ ap (counted 1) (c .before .left .ensures _ t
     ∙ simp (
       q .0,
       q .1,
-      c .before .with-file .ensures,
-      c .before .before .with .ensures,
-      c .before .before .before .word-at .ensures,
-    )
+      put .with-file .ensures,
+      put .before .with .ensures,
+      put .before .before .word-at .ensures,
+    ))
 
 failed-requires : tie.Need-failed-requires
 failed-requires c κs = search needs
+
+counted-requires-2 : tie.Need-counted-requires-2
+counted-requires-2 c κs = omega (arith, unreferenced _ (c .failed .ensures))
 
 -- past it
 returns-2 : tie.Need-returns-2
 unfolding examined
 returns-2 c =
-    let i = c .before in
+    let i = c .before .before in
     let k = i .before .before in
     let q = past-memory _ Read _ (place k)
     (fails-other (k .physical .result) (i .before .fault-of .ensures) (i .if1 .left)) in
-    λ t. c .failed .ensures _ t ∙ simp (q .0, q .1)
+    λ t. c .counted2 .ensures _ t ∙ ap (counted 1) (c .before .failed .ensures _ t ∙ simp (q .0, q .1))
 
 pub examined-spec : {M : Type 1} → statement M
 examined-spec =
@@ -94,6 +103,8 @@ examined-spec =
     with-requires
     with-file-requires
     left-requires
+    counted-requires
     returns
     failed-requires
+    counted-requires-2
     returns-2)

@@ -18,27 +18,28 @@ use borrow.Author.Needs.{needs}
 use Rattle.exec_memory.proofs.several.words.Statement.{statement}
 use Rattle.exec_memory.proofs.several.words.Tie as tie
 
--- the accesses tested, before their fault was looked for, and the function's start
-abbrev tested : tie.After-fault-in → tie.After-several
-tested c = c .before .before .before
+-- the accesses tested, before their fault and number were looked for, and the function's start
+abbrev tested : tie.After-made-in → tie.After-several
+tested c = c .before .before .before .before
 
 abbrev started : tie.After-several → tie.Start
 started t = let lent = t .before .before .before .before in lent .before
 
 -- what was found of them, by the kind of the request
-found : (c : tie.After-fault-in) →
+found : (c : tie.After-made-in) →
     let t = tested c in
     let a = started t .args in
     Outcome (a .tables .now) (length (a .mem .now)) (a .x .rights) []
     (severalWords (severalKind (a .store)) (a .x .alternate) (a .x .address) (a .n)) (placesOf (t .several .result))
-    (c .fault-in .result) (t .several .last .0)
+    (c .before .fault-in .result) (c .made-in .result) (t .several .last .0)
 found c =
     let t = tested c in
-    renamed (started t .args .n) (t .before .kind-of .ensures) (c .fault-in .ensures) (t .several .ensures)
+    renamed (started t .args .n) (t .before .kind-of .ensures) (c .before .fault-in .ensures) (c .made-in .ensures)
+    (t .several .ensures)
 
 -- they passed
-passed : (p : tie.Else1) → passes (p .before .before .fault-in .result) ≡ true
-passed p = passes-zero (p .before .before .fault-in .result) (p .before .fault-of .ensures) (p .if1 .left)
+passed : (p : tie.Else1) → passes (p .before .before .before .fault-in .result) ≡ true
+passed p = passes-zero (p .before .before .before .fault-in .result) (p .before .fault-of .ensures) (p .if1 .left)
 
 kind-of-requires : tie.Need-kind-of-requires
 kind-of-requires c κs = search needs
@@ -49,11 +50,14 @@ several-requires c κs = search needs
 fault-in-requires : tie.Need-fault-in-requires
 fault-in-requires c κs = search needs
 
+made-in-requires : tie.Need-made-in-requires
+made-in-requires c κs = search needs
+
 fault-of-requires : tie.Need-fault-of-requires
 fault-of-requires c κs = search needs
 
-with-event-requires : tie.Need-with-event-requires
-with-event-requires c κs = search needs
+failed-requires : tie.Need-failed-requires
+failed-requires c κs = search needs
 
 same-length : tie.Need-same-length
 same-length c = search needs
@@ -63,8 +67,9 @@ returns c =
     -- an access failed
     let x = c .before .before .before in
     let a = started (tested x) .args in
-    let failed = fails-other (x .fault-in .result) (c .before .before .fault-of .ensures) (c .before .if1 .taken) in
-    fails (a .f) (a .mem .now) (Several (a .store) (a .n)) (a .x) (found x) failed (c .with-event .ensures)
+    let fault = x .before .fault-in .result in
+    let other = fails-other fault (c .before .before .fault-of .ensures) (c .before .if1 .taken) in
+    fails (a .f) (a .mem .now) (Several (a .store) (a .n)) (a .x) (found x) other (c .failed .ensures)
 
 stored-more-requires : tie.Need-stored-more-requires
 stored-more-requires c κs = search needs
@@ -141,8 +146,9 @@ words-spec =
     kind-of-requires
     several-requires
     fault-in-requires
+    made-in-requires
     fault-of-requires
-    with-event-requires
+    failed-requires
     same-length
     returns
     stored-more-requires

@@ -114,7 +114,7 @@ returns-3 c =
     let g = found-by (write .translate2 .ensures) (tested .fault-of2 .ensures) in
     let o = both-passed f (passed .if1 .left) g (reading .before .before .before .if2 .left) in
     let word = reading .word-at in
-    let x : Exchanged = record { word = word .result; fault = NoAccess } in
+    let x : Exchanged = record { word = word .result; fault = NoAccess; made = 2 } in
     stores (a .f) m (Update (a .k)) (a .x) o refl (change-done (a .f) (a .k) x refl)
     (change-stores (a .k) (a .f) (word .result) ∙ ap (changeOf (a .k) (a .f)) (word .ensures))
     (stored .store-at .ensures ∙ stored-after from to (found-loads f) m u _

@@ -17,8 +17,8 @@ exchange-requires c κs = search needs
 fault-of-requires : tie.Need-fault-of-requires
 fault-of-requires c κs = search needs
 
-with-event-requires : tie.Need-with-event-requires
-with-event-requires c κs = search needs
+failed-requires : tie.Need-failed-requires
+failed-requires c κs = search needs
 
 same-length : tie.Need-same-length
 same-length c = search needs
@@ -31,7 +31,7 @@ returns c =
     -- an access failed
     let t = c .before .before in
     let x = exchanged t .exchange in
-    rw (exchange-fails PutByte (x .result) (t .fault-of .ensures) (c .before .if1 .taken) (c .with-event .ensures))
+    rw (exchange-fails PutByte (x .result) (t .fault-of .ensures) (c .before .if1 .taken) (c .failed .ensures))
     (x .ensures)
 
 fine-requires : tie.Need-fine-requires
@@ -59,7 +59,7 @@ put-byte-spec =
     (tie.spec
     exchange-requires
     fault-of-requires
-    with-event-requires
+    failed-requires
     same-length
     same-length-2
     returns

@@ -18,8 +18,8 @@ exchange-requires c κs = search needs
 fault-of-requires : tie.Need-fault-of-requires
 fault-of-requires c κs = search needs
 
-with-event-requires : tie.Need-with-event-requires
-with-event-requires c κs = search needs
+failed-requires : tie.Need-failed-requires
+failed-requires c κs = search needs
 
 same-length : tie.Need-same-length
 same-length c = search needs
@@ -33,7 +33,7 @@ returns c =
     let t = c .before .before in
     let x = exchanged t in
     let k = started x .args .k in
-    rw (exchange-fails k (x .exchange .result) (t .fault-of .ensures) (c .before .if1 .taken) (c .with-event .ensures))
+    rw (exchange-fails k (x .exchange .result) (t .fault-of .ensures) (c .before .if1 .taken) (c .failed .ensures))
     (x .exchange .ensures)
 
 after-change-requires : tie.Need-after-change-requires
@@ -63,7 +63,7 @@ update-spec =
     (tie.spec
     exchange-requires
     fault-of-requires
-    with-event-requires
+    failed-requires
     same-length
     same-length-2
     returns

@@ -12,10 +12,9 @@ use Rattle.event.specs.declared.Event.{Event}
 use Rattle.event.specs.Events.{eventPart, byPrivilege, isFine}
 use Rattle.isa.specs.Machine.{nextCore}
 use Rattle.isa.specs.Step.{privileged}
-use Rattle.exec_memory.proofs.Stages.{file-left}
 use Rattle.isa.proofs.Tests.{no-both}
 use Rattle.exec_step.specs.Steps.{unprivileged}
-use Rattle.exec_step.proofs.Steps.{privileged-part}
+use Rattle.exec_step.proofs.Steps.{privileged-part, event-left}
 use borrow.Author.Needs.{needs}
 use Rattle.exec_step.proofs.instruction.instruction_stage.Statement.{statement}
 use Rattle.exec_step.proofs.instruction.instruction_stage.Tie as tie
@@ -78,7 +77,7 @@ returns-2 c =
     let start = told .before .before .before .before in
     let a = start .args in (
       λ l k s.
-          file-left l _ _ (s .executing) (c .with-event .ensures)
+          event-left l _ _ (s .executing) (c .with-event .ensures)
           ∙ privileged-part l (nextCore k) (a .mem .now) (a .tables .now) _ (privileged k)
           ∙ ap (instructionStage l k (a .mem .now) (a .tables .now)) (sym (told .i2 .given .1)),
       λ fine. absurd (no-both (ap (λ (e : Ending). isFine (e .event)) (sym (c .with-event .ensures)) ∙ fine)),
@@ -92,7 +91,7 @@ returns-3 c =
     let start = told .before .before .before .before in
     let a = start .args in (
       λ l k s.
-          file-left l _ _ (s .executing) (c .with-event2 .ensures)
+          event-left l _ _ (s .executing) (c .with-event2 .ensures)
           ∙ ap (instructionStage l k (a .mem .now) (a .tables .now)) (sym (told .enum-told .given .1)),
       λ fine. absurd (no-both (ap (λ (e : Ending). isFine (e .event)) (sym (c .with-event2 .ensures)) ∙ fine)),
     )
@@ -106,9 +105,9 @@ returns-4 c =
     let a = start .args in
     let n = told .i3 .given .0 .0 in
     let h : SFits w16 n = search needs in
-    let number : Event → Ending = λ e. record { file = a .f; event = e } in (
+    let number : Event → Ending = λ e. record { references = 0; event = e; file = a .f } in (
       λ l k s.
-          file-left l _ _ (s .executing)
+          event-left l _ _ (s .executing)
           (c .with-event3 .ensures ∙ ap (λ (z : ℤ). number (Monitor z)) (toZ-ofZ w16 n h))
           ∙ ap (instructionStage l k (a .mem .now) (a .tables .now)) (sym (told .i3 .given .1)),
       λ fine. absurd (no-both (ap (λ (e : Ending). isFine (e .event)) (sym (c .with-event3 .ensures)) ∙ fine)),
@@ -122,7 +121,7 @@ returns-5 c =
     let start = told .before .before .before .before in
     let a = start .args in (
       λ l k s.
-          file-left l _ _ (s .executing) (c .with-event4 .ensures)
+          event-left l _ _ (s .executing) (c .with-event4 .ensures)
           ∙ ap (instructionStage l k (a .mem .now) (a .tables .now)) (sym (told .enum-told2 .given .1)),
       λ fine. absurd (no-both (ap (λ (e : Ending). isFine (e .event)) (sym (c .with-event4 .ensures)) ∙ fine)),
     )

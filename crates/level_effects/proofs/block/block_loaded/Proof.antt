@@ -15,6 +15,13 @@ asked c = let lent = c .before .before .before in lent .before .before
 abbrev started : tie.After-tested → tie.Start
 started c = let entered = c .before .before .before in entered .before .before .before
 
+-- .. the words put, before the level's are taken out again; and before that all accesses passed
+abbrev put : tie.After-reloaded → tie.After-put-block
+put c = c .before .before .before .before
+
+abbrev all-passed : tie.After-put-block → tie.Then1
+all-passed c = c .before .before .before .before
+
 tested-requires : tie.Need-tested-requires
 tested-requires c κs = search needs
 
@@ -30,35 +37,37 @@ put-block-requires c κs = search needs
 -- the registers' number is kept
 reloaded-requires : tie.Need-reloaded-requires
 reloaded-requires c κs =
-    let put = c .before .before .before in
-    let judged = put .before .before .before .before in
-    let test = asked (judged .before) in
+    let done = c .before .before .before in
+    let test = asked (all-passed done .before) in
     let start = started test in
-    (start .pre .0, put .put-block .kept .1 .0 ∙ test .tested .kept .1 .1 .0 ∙ start .pre .1 .0)
+    (start .pre .0, done .put-block .kept .1 .0 ∙ test .tested .kept .1 .1 .0 ∙ start .pre .1 .0)
 
--- all accesses passed: the registers keep their number
+cast-t27 : tie.Need-cast-t27
+cast-t27 c = search needs
+
+-- all accesses passed: the registers keep their number, and the tables
 same-length : tie.Need-same-length
 same-length c =
-    let put = c .before .before .before .before in
-    let judged = put .before .before .before .before in
-    put .put-block .kept .1 .0 ∙ asked (judged .before) .tested .kept .1 .1 .0
+    let done = put (c .before) in
+    done .put-block .kept .1 .0 ∙ asked (all-passed done .before) .tested .kept .1 .1 .0
 
 same-length-2 : tie.Need-same-length-2
-same-length-2 c = search needs
+same-length-2 c = asked (all-passed (put (c .before)) .before) .tested .kept .1 .1 .1 .1 .0
 
 -- all accesses passed
 returns : tie.Need-returns
 returns c =
-    let put = c .before .before .before .before in
-    let judged = put .before .before .before .before in
+    let taken-out = c .before in
+    let done = put taken-out in
+    let judged = all-passed done in
     let test = asked (judged .before) in
     let a = started test .args in
     let f = judged .before .fault-of .ensures in (
       (refl, refl),
       λ p q. block-from-memory _ _ Read _ _ _ (test .tested .ensures) p q f (judged .if1 .taken) _
-          (put .before .read-block .ensures)
-          (c .reloaded .ensures (a .regs .now) p
-          ∙ put .put-block .ensures (pack (a .level) (a .c) (a .regs .now) p) refl),
+          (done .before .read-block .ensures)
+          (taken-out .reloaded .ensures (a .regs .now) p
+          ∙ done .put-block .ensures (pack (a .level) (a .c) (a .regs .now) p) refl),
     )
 
 block-failed-requires : tie.Need-block-failed-requires
@@ -88,6 +97,7 @@ block-loaded-spec =
     read-block-requires
     put-block-requires
     reloaded-requires
+    cast-t27
     same-length
     same-length-2
     returns

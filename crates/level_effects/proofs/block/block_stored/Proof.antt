@@ -14,6 +14,13 @@ asked c = let lent = c .before .before .before in lent .before .before
 abbrev started : tie.After-tested → tie.Start
 started c = let entered = c .before .before .before in entered .before .before .before
 
+-- .. the words stored, before their number is taken; and before that all accesses passed
+abbrev stored : tie.After-struct-known → tie.After-store-block
+stored c = let lent = c .before .before .before in lent .before .before
+
+abbrev all-passed : tie.After-store-block → tie.Then1
+all-passed c = let read = c .before in read .before .before .before .before
+
 tested-requires : tie.Need-tested-requires
 tested-requires c κs = search needs
 
@@ -31,8 +38,12 @@ store-block-requires c κs =
     let passed = block-storing _ (test .tested .ensures) (judged .before .fault-of .ensures) (judged .if1 .taken) in
     (passed, test .tested .kept .1 .1 .1 .1 .0 ∙ started test .pre .1 .1)
 
+cast-t27 : tie.Need-cast-t27
+cast-t27 c = search needs
+
+-- the registers keep their number
 same-length : tie.Need-same-length
-same-length c = search needs
+same-length c = asked (all-passed (stored c) .before) .tested .kept .1 .1 .0
 
 same-length-2 : tie.Need-same-length-2
 same-length-2 c = search needs
@@ -43,14 +54,13 @@ same-length-3 c = search needs
 -- all accesses passed
 returns : tie.Need-returns
 returns c =
-    let stored = c .before .before .before .before in
-    let read = stored .before in
-    let judged = read .before .before .before .before in
+    let done = stored c in
+    let judged = all-passed done in
     let test = asked (judged .before) .tested .ensures in
     let f = judged .before .fault-of .ensures in (
       (refl, refl),
-      λ p q. block-to-memory _ _ Write _ _ _ test p q f (judged .if1 .taken) _ (read .file-at .ensures)
-          (stored .store-block .ensures),
+      λ p q. block-to-memory _ _ Write _ _ _ test p q f (judged .if1 .taken) _ (done .before .file-at .ensures)
+          (done .store-block .ensures),
     )
 
 block-failed-requires : tie.Need-block-failed-requires
@@ -79,6 +89,7 @@ block-stored-spec =
     fault-of-requires
     file-at-requires
     store-block-requires
+    cast-t27
     same-length
     same-length-2
     same-length-3

@@ -11,7 +11,8 @@ use lib.ListN.{length}
 use borrow.Author.Needs.{needs}
 use borrow.Author.Tests.{eq-eqb, ne-eqb}
 use Rattle.isa.specs.Machine.{levelCount, pack}
-use Rattle.isa.specs.Step.{Turn, turn}
+use Rattle.isa.specs.Step.{Turn}
+use Rattle.run.specs.Runs.{turnWith}
 use Rattle.isa.specs.declared.answer.Reason.{Reason}
 use Rattle.levels.specs.Changes.{dueAt, advancedTurn}
 use Rattle.run.specs.declared.machine.LoopEnd.{LoopEnd}
@@ -21,22 +22,23 @@ use Rattle.run.proofs.machine.run_in.Statement.{statement}
 use Rattle.run.proofs.machine.run_in.Tie as tie
 
 abbrev Inv-loop : tie.InvT-loop
-Inv-loop classes start regs₀ pcrs₀ mem₀ tables₀ n first level₀ core₀ steps₀ gave₀ regs pcrs mem tables level core steps
-    gave =
-    Going first n (pack start core₀ regs₀ pcrs₀) mem₀ tables₀ steps (turn (pack level core regs pcrs) gave mem tables)
+Inv-loop classes start regs₀ pcrs₀ mem₀ tables₀ n first level₀ core₀ steps₀ gave₀ references₀ regs pcrs mem tables level
+    core steps gave references =
+    Going first n (pack start core₀ regs₀ pcrs₀) mem₀ tables₀ steps
+    (turnWith references (pack level core regs pcrs) gave mem tables)
     × ((level < levelCount) × ((length regs ≡ length regs₀)
     × ((length pcrs ≡ length pcrs₀) × ((length mem ≡ length mem₀) × (length tables ≡ length tables₀)))))
 
 abbrev μ-loop : tie.MeasureT-loop
-μ-loop classes start regs₀ pcrs₀ mem₀ tables₀ n first level₀ core₀ steps₀ gave₀ regs pcrs mem tables level core steps
-    gave =
+μ-loop classes start regs₀ pcrs₀ mem₀ tables₀ n first level₀ core₀ steps₀ gave₀ references₀ regs pcrs mem tables level
+    core steps gave references =
     n - steps
 
 -- ---- places: the call of advance before what it lent comes back; the test before the call; the loop; the start
 
 abbrev advancing : tie.After-struct-known2 Inv-loop μ-loop → tie.After-advance Inv-loop μ-loop
 advancing c =
-    let tables = c .before .before .before .before in
+    let tables = c .before .before .before .before .before in
     let pcrs = tables .before .before .before .before in
     pcrs .before .before
 
@@ -156,6 +158,9 @@ advance-requires c κs =
       ),
     )
 
+wrapping-add-u64-requires : tie.Need-wrapping-add-u64-requires Inv-loop μ-loop
+wrapping-add-u64-requires c κs = search needs
+
 -- the steps taken are at most those asked for
 add-steps : tie.Need-add-steps Inv-loop μ-loop
 add-steps c =
@@ -208,11 +213,12 @@ returns-3 c =
     let q = advanced out in
     let given : (started (tested .before) .args .first && not (eqb (q .gave) 0)) ≡ true =
     sym (c .before .before .interrupt-ends .ensures) ∙ c .before .if3 .taken in
+    let sum = c .before .before .before .before .wrapping-add-u64 .ensures in
     let left = out .advance .last .1 .1 .1 in
     subst (AnsweredFrom (tested .before) (left .0) (left .1 .0) (left .1 .1 .0) (left .1 .1 .1 .0))
     (sym (c .ended3 .ensures)) (
       out .advance .ensures .0 .0,
-      ends-interrupt (tested .before .loop .inv .0) (out .advance .result) q (tested .loop-test .taken)
+      ends-interrupt (tested .before .loop .inv .0) (out .advance .result) q _ sum (tested .loop-test .taken)
           (out .advance .ensures .0 .1) (out .advance .ensures .1 .0) (out .advance .ensures .1 .1) (stays out) given,
     )
 
@@ -227,9 +233,10 @@ loop-again c =
     let q = advanced out in
     let silent : (started (tested .before) .args .first && not (eqb (q .gave) 0)) ≡ false =
     sym (c .before .interrupt-ends .ensures) ∙ c .if3 .left in
+    let sum = c .before .before .before .wrapping-add-u64 .ensures in
     let same = tested .before .loop .inv .1 .1 in
     let kept = out .advance .kept .1 .1 .1 in (
-      goes-on (tested .before .loop .inv .0) (out .advance .result) q (tested .loop-test .taken)
+      goes-on (tested .before .loop .inv .0) (out .advance .result) q _ sum (tested .loop-test .taken)
           (out .advance .ensures .0 .1) (out .advance .ensures .1 .0) (out .advance .ensures .1 .1) (stays out) silent,
       (
         out .advance .ensures .0 .0,
@@ -264,7 +271,14 @@ returns-4 c =
     let tested = c .before .before in
     let l = tested .before .loop in
     let at : Reason → LoopEnd =
-    λ w. record { level = l .level; core = l .core; steps = l .steps; gave = l .gave; reason = w } in
+    λ w. record {
+      level = l .level;
+      core = l .core;
+      steps = l .steps;
+      gave = l .gave;
+      references = l .references;
+      reason = w;
+    } in
     subst (AnsweredFrom (tested .before) (l .regs) (l .pcrs) (l .mem) (l .tables))
     (sym (c .ended4 .ensures ∙ ap at (c .before .at-rest .ensures)))
     (l .inv .1 .0, ends-at-rest (l .inv .0) (tested .loop-test .left))
@@ -291,6 +305,7 @@ run-in-spec =
     returns-2
     sub-advance
     advance-requires
+    wrapping-add-u64-requires
     add-steps
     add-steps-2
     interrupt-ends-requires
