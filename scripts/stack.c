@@ -25,7 +25,7 @@ static const uint64_t at[4] = { 0, 0, 1, 1 };
 static const uint16_t what[4] = { 10, ND110_TICK, ND110_TYPED + 'A', ND110_READ_OUT };
 static uint16_t told[4];
 static uint16_t interrupt, reason, character, answer;
-static uint64_t steps, handed;
+static uint64_t steps, handed, references;
 
 /* The stack pointer of the caller, right before the call. */
 #define CALL(call)                                       \
@@ -36,8 +36,14 @@ static uint64_t steps, handed;
 
 static void do_step(void) { CALL(nd110_step(LENT(state), LENT(memory), LENT(tables), &interrupt)); }
 static void do_step_lent(void) { CALL(nd110_step_lent(&record, LENT(memory), LENT(tables), &interrupt)); }
-static void do_run(void) { CALL(nd110_run(LENT(state), LENT(memory), LENT(tables), 100, &steps, &reason)); }
-static void do_to(void) { CALL(nd110_run_to_interrupt(LENT(state), LENT(memory), LENT(tables), 100, &steps, &reason)); }
+static void do_run(void)
+{
+    CALL(nd110_run(LENT(state), LENT(memory), LENT(tables), 100, &steps, &reason, &references));
+}
+static void do_to(void)
+{
+    CALL(nd110_run_to_interrupt(LENT(state), LENT(memory), LENT(tables), 100, &steps, &reason, &references));
+}
 static void do_raise(void) { CALL(nd110_raise(LENT(state), 10, LENT(memory), LENT(tables))); }
 static void do_raise_lent(void) { CALL(nd110_raise_lent(&record, 10, LENT(memory), LENT(tables))); }
 static void do_tick(void) { CALL(nd110_tick(LENT(state), LENT(memory), LENT(tables))); }
@@ -46,7 +52,7 @@ static void do_read_out(void) { CALL(nd110_read_out(LENT(state), LENT(memory), L
 static void do_with_input(void)
 {
     CALL(nd110_run_with_input(LENT(state), LENT(memory), LENT(tables), 100, at, 4, what, 4, told, 4, &handed, &steps,
-                              &reason));
+                              &reason, &references));
 }
 static void do_load(void) { CALL(nd110_load(LENT(state), LENT(out), LENT(memory), LENT(tables))); }
 static void do_write(void) { CALL(nd110_write(LENT(state), LENT(memory), LENT(tables), LENT(out))); }

@@ -28,6 +28,7 @@ fn answered(a: Answer, after: State) -> Told {
         refusal: answer_number(a) as u64,
         first: 0,
         second: 0,
+        third: 0,
         state: after,
     }
 }
@@ -41,6 +42,7 @@ fn step(s: State, mem: &mut [u16], tables: &mut [u16]) -> Told {
             refusal: 0,
             first: n as u64,
             second: 0,
+            third: 0,
             state: after,
         },
         StepAnswer::Refused(x) => answered(Answer::Refused(x), after),
@@ -51,10 +53,11 @@ fn ran(r: RunResult) -> Told {
     let after = r.state;
     let a = r.answer;
     match a {
-        RunAnswer::Ran(n, reason) => Told {
+        RunAnswer::Ran(n, reason, references) => Told {
             refusal: 0,
             first: reason_number(reason) as u64,
             second: n,
+            third: references,
             state: after,
         },
         RunAnswer::Refused(x) => answered(Answer::Refused(x), after),
@@ -105,6 +108,7 @@ fn write(s: State, mem: &[u16], tables: &[u16], out: &mut [u16]) -> Told {
         refusal: answer_number(a) as u64,
         first: sum(out),
         second: 0,
+        third: 0,
         state: s,
     }
 }
@@ -130,6 +134,7 @@ fn view<'a>(
         refusal: answer_number(a) as u64,
         first: part.len() as u64,
         second: sum(part),
+        third: 0,
         state: s,
     }
 }
@@ -151,6 +156,7 @@ fn write_load(s: State, mem: &mut [u16], tables: &mut [u16], out: &mut [u16]) ->
         refusal: again.refusal,
         first: told.first,
         second: told.refusal,
+        third: 0,
         state: after,
     }
 }
@@ -176,6 +182,7 @@ fn device(s: State, n: u64, w: u64, mem: &[u16], tables: &[u16]) -> Told {
         refusal: sent_number(sent) as u64,
         first: character_told(sent),
         second: 0,
+        third: 0,
         state: after,
     }
 }
@@ -218,12 +225,13 @@ fn input_told(r: InputRunResult, told: &[u16]) -> Told {
     let after = r.state;
     let a = r.answer;
     match a {
-        RunAnswer::Ran(n, reason) => {
+        RunAnswer::Ran(n, reason, references) => {
             let handed = within(r.handed as u64, told);
             Told {
                 refusal: 0,
                 first: reason_number(reason) as u64 + 8 * sum(&told[..handed]),
                 second: n,
+                third: references,
                 state: after,
             }
         }

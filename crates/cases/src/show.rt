@@ -94,6 +94,7 @@ pub(crate) fn show(told: Told, mem: &[u16], tables: &[u16]) {
     io::print_decimal(1, told.refusal);
     number(told.first);
     number(told.second);
+    number(told.third);
     checksum(sum(&regs));
     checksum(control_sum(s));
     checksum(sum(tables));

@@ -11,7 +11,7 @@ use lib.Seq.{paste, take-all, take-at, length-take-le, getD-take, getD-drop}
 use lib.Dec.{eqb}
 use borrow.Author.Tests.{eq-eqb, ne-eqb}
 use Rattle.isa.specs.Machine.{registerWords, controlCount, stateWords, controlOf, stateWith, stateIn, stateOrdered}
-use Rattle.isa.specs.Answers.{runNumber, stepsTaken, stateAnswer, StepCall, stepCallBy, stepCall, viewAnswer}
+use Rattle.isa.specs.Answers.{runNumber, stateAnswer, StepCall, stepCallBy, stepCall, viewAnswer}
 use Rattle.isa.specs.Answers.{viewedBy, viewed, targetOf}
 use Rattle.isa.specs.declared.machine.Control.{Control}
 use Rattle.isa.specs.declared.machine.State.{State}
@@ -23,7 +23,7 @@ use Rattle.isa.proofs.Tests.{no-both}
 use Rattle.run.specs.Runs.{stepCalled}
 use Rattle.run_input.specs.Inputs.{onto}
 use Rattle.run.specs.declared.step.StepEnd.{StepEnd}
-use Rattle.nd110.specs.Calls.{Left, leftOf, callEnd, called, badCall, stepEnd, hostStep, reasonGiven}
+use Rattle.nd110.specs.Calls.{Left, leftOf, callEnd, called, badCall, stepEnd, hostStep, ranValues}
 use Rattle.nd110.specs.Calls.{inputRunEnd}
 
 -- ---- words put in front of others
@@ -109,7 +109,7 @@ input-badly w m t y x b h e =
 -- has none
 pub input-ended : (r : InputRunCall) (w told told′ y v z : List ℕ) (n h : ℕ) → n ≡ runNumber (r .answer)
     → v ≡ cond (eqb n 0) (stateOrdered (r .state)) w
-    → z ≡ cond (eqb n 0) (h ∷ stepsTaken (r .answer) ∷ reasonGiven (r .answer) ∷ []) y
+    → z ≡ cond (eqb n 0) (h ∷ ranValues (r .answer)) y
     → told′ ≡ onto (r .told) told → length (r .told) ≡ h → (eqb n 0 ≡ false → r .told ≡ [])
     → leftOf n v (r .memory) (r .tables) (told′ ++ z) ≡ inputRunEnd w told y r
 unfolding callEnd
@@ -118,14 +118,14 @@ input-ended r w told told′ y v z n h e hv hz ht hl none =
     ∙ ap (λ (l : List ℕ). leftOf n (cond (eqb n 0) (stateOrdered (r .state)) w) (r .memory) (r .tables) l)
     (words (eqb n 0) refl)
     ∙ ap (λ (k : ℕ). callEnd k (r .state) (r .memory) (r .tables)
-    (onto (r .told) told ++ (length (r .told) ∷ stepsTaken (r .answer) ∷ reasonGiven (r .answer) ∷ [])) w (told ++ y)) e
+    (onto (r .told) told ++ (length (r .told) ∷ ranValues (r .answer))) w (told ++ y)) e
   where
     words : (b : Bool) → eqb n 0 ≡ b
-        → told′ ++ cond b (h ∷ stepsTaken (r .answer) ∷ reasonGiven (r .answer) ∷ []) y
+        → told′ ++ cond b (h ∷ ranValues (r .answer)) y
         ≡ cond b
-        (onto (r .told) told ++ (length (r .told) ∷ stepsTaken (r .answer) ∷ reasonGiven (r .answer) ∷ []))
+        (onto (r .told) told ++ (length (r .told) ∷ ranValues (r .answer)))
         (told ++ y)
-    words true q = λ i. ht i ++ (sym hl i ∷ stepsTaken (r .answer) ∷ reasonGiven (r .answer) ∷ [])
+    words true q = λ i. ht i ++ (sym hl i ∷ ranValues (r .answer))
     words false q =
         ap (λ (l : List ℕ). l ++ y) (ht ∙ ap (λ (l : List ℕ). onto l told) (none q))
 

@@ -8,6 +8,7 @@ use lib.Dec.{leb, eqb}
 use Rattle.isa.specs.Machine.{stateWords, stateIn, stateOrdered}
 use Rattle.isa.specs.Answers.{StepCall, RunCall, StateCall, ReadOutCall, LoadCall, answerNumber, stepNumber}
 use Rattle.isa.specs.Answers.{interruptGiven, runNumber, sentNumber, characterSentOf, stepsTaken, reasonNumber}
+use Rattle.isa.specs.Answers.{referencesMade}
 use Rattle.isa.specs.Answers.{stepCall, runCall, raiseCall, tickCall, typeCall, readOutCall, loadCall}
 use Rattle.isa.specs.Answers.{writeAnswer, writtenOutput, viewAnswer, viewed, Told}
 use Rattle.isa.specs.DeviceInput.{InputRunCall, inputRunCall, givenOf}
@@ -28,8 +29,12 @@ badCall = 255
 
 -- the reason's number of a run that was not refused
 abbrev pub reasonGiven : RunAnswer → ℕ
-reasonGiven (Ran k w) = reasonNumber w
+reasonGiven (Ran k w g) = reasonNumber w
 reasonGiven (Refused r) = 0
+
+-- what a run that was performed tells
+abbrev pub ranValues : RunAnswer → List ℕ
+ranValues a = stepsTaken a ∷ reasonGiven a ∷ referencesMade a ∷ []
 
 -- what a call answers and leaves: its number, the state's words, memory, page tables, and the words that tell the rest
 -- of the answer
@@ -77,11 +82,10 @@ lentStepEnd y c =
     lentLeft (stepNumber (c .answer)) (c .state) (c .memory) (c .tables)
     (cond (eqb (stepNumber (c .answer)) 0) (interruptGiven (c .answer)) y ∷ [])
 
--- a run tells its steps and its reason's number
+-- a run tells its steps, its reason's number and its references
 abbrev pub runEnd : List ℕ → List ℕ → RunCall → Left
 runEnd w y c =
-    callEnd (runNumber (c .answer)) (c .state) (c .memory) (c .tables)
-    (stepsTaken (c .answer) ∷ reasonGiven (c .answer) ∷ []) w y
+    callEnd (runNumber (c .answer)) (c .state) (c .memory) (c .tables) (ranValues (c .answer)) w y
 
 abbrev pub hostRun : Bool → ℕ → List ℕ → List ℕ → List ℕ → List ℕ → Left
 hostRun first n w m t y = called w m t y (runEnd w y (runCall first n (stateIn w) m t))
@@ -115,12 +119,12 @@ abbrev pub hostReadOut : List ℕ → List ℕ → List ℕ → List ℕ → Lef
 hostReadOut w m t y = called w m t y (readOutEnd w y m t (readOutCall (stateIn w) m t))
 
 -- Run with device input tells, in the words for its inputs, what each that was handed in was told, the others staying;
--- then how many these are, the steps and the reason's number. Lists of inputs of different lengths are no device input.
+-- then how many these are, the steps, the reason's number and the references. Lists of inputs of different lengths are
+-- no device input.
 abbrev pub inputRunEnd : List ℕ → List ℕ → List ℕ → InputRunCall → Left
 inputRunEnd w told y c =
     callEnd (runNumber (c .answer)) (c .state) (c .memory) (c .tables)
-    (onto (c .told) told ++ (length (c .told) ∷ stepsTaken (c .answer) ∷ reasonGiven (c .answer) ∷ []))
-    w (told ++ y)
+    (onto (c .told) told ++ (length (c .told) ∷ ranValues (c .answer))) w (told ++ y)
 
 abbrev pub hostInputRun : ℕ → List ℕ → List ℕ → List ℕ → List ℕ → List ℕ → List ℕ → List ℕ → Left
 hostInputRun n steps what told w m t y =

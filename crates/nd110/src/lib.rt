@@ -7,13 +7,13 @@ ghost use Prim.Native.Nat.{ℕ};
 ghost use mathlib.Core.List.{List, _∷_, [], _++_};
 ghost use lib.Dec.{eqb};
 ghost use lib.ListN.{length, take};
-ghost use Rattle.nd110.specs.Calls.{leftOf, stepEnd, hostStep, runEnd, hostRun, reasonGiven};
+ghost use Rattle.nd110.specs.Calls.{leftOf, stepEnd, hostStep, runEnd, hostRun, reasonGiven, ranValues};
 ghost use Rattle.nd110.specs.Calls.{answerEnd, hostRaise, hostLoad, hostWrite, hostWritten, knownTarget};
 ghost use Rattle.nd110.specs.Calls.{hostTick, hostType, readOutEnd, hostReadOut, hostInputRun};
 ghost use Rattle.nd110.specs.Calls.{targetNamed, hostViewAnswer, hostView, hostViewed};
 ghost use Rattle.nd110.specs.Calls.{lentLeft, lentStepEnd, lentRaiseEnd, outputLeft, hostToLong, hostToShort};
 ghost use Rattle.isa.specs.Machine.{levelCount, registerWords, stateWords, stateOrdered};
-ghost use Rattle.isa.specs.Answers.{stepNumber, interruptGiven, runNumber, stepsTaken, stepCall, raiseCall, runCall};
+ghost use Rattle.isa.specs.Answers.{stepNumber, interruptGiven, runNumber, stepCall, raiseCall, runCall};
 ghost use Rattle.run.specs.Runs.{stepCalled};
 ghost use Rattle.operations.specs.Calls.{runOf, readOutOf};
 use floating::form::Long;
@@ -41,6 +41,7 @@ use isa::number::answer_number;
 use isa::number::character_sent_of;
 use isa::number::interrupt_given;
 use isa::number::reason_number;
+use isa::number::references_made;
 use isa::number::refusal_number;
 use isa::number::run_number;
 use isa::number::sent_number;
@@ -158,17 +159,24 @@ fn reason_given(a: RunAnswer) -> u16
     ensures { λ n. ⌜ n ≡ reasonGiven a ⌝ }
 {
     match a {
-        RunAnswer::Ran(_, w) => reason_number(w),
+        RunAnswer::Ran(_, w, _) => reason_number(w),
         RunAnswer::Refused(_) => 0,
     }
 }
 
 // What a run answered, to the lent words.
-fn tell(r: RunResult, state: &mut [u16], steps: &mut u64, reason: &mut u16) -> u16
+fn tell(
+    r: RunResult,
+    state: &mut [u16],
+    steps: &mut u64,
+    reason: &mut u16,
+    references: &mut u64,
+) -> u16
     requires { ⌜ length (now state) ≡ stateWords ⌝ }
     ensures { λ n. ⌜ ((m t : List ℕ)
-        → leftOf n (now (state .exit)) m t (now (steps .exit) ∷ now (reason .exit) ∷ [])
-        ≡ runEnd (now (state .entry)) (now (steps .entry) ∷ now (reason .entry) ∷ []) (runOf r m t)) ⌝ }
+        → leftOf n (now (state .exit)) m t (now (steps .exit) ∷ now (reason .exit) ∷ now (references .exit) ∷ [])
+        ≡ runEnd (now (state .entry)) (now (steps .entry) ∷ now (reason .entry) ∷ now (references .entry) ∷ [])
+        (runOf r m t)) ⌝ }
 {
     let a = r.answer;
     let n = run_number(a);
@@ -179,6 +187,7 @@ fn tell(r: RunResult, state: &mut [u16], steps: &mut u64, reason: &mut u16) -> u
     put_state(after, state);
     *steps = steps_taken(a);
     *reason = reason_given(a);
+    *references = references_made(a);
     0
 }
 
@@ -202,21 +211,22 @@ fn run_words(
     first: bool,
     steps: &mut u64,
     reason: &mut u16,
+    references: &mut u64,
 ) -> u16
     ensures { λ r. ⌜ leftOf r (now (state .exit)) (now (mem .exit)) (now (tables .exit))
-        (now (steps .exit) ∷ now (reason .exit) ∷ [])
+        (now (steps .exit) ∷ now (reason .exit) ∷ now (references .exit) ∷ [])
         ≡ hostRun first n (now (state .entry)) (now (mem .entry)) (now (tables .entry))
-        (now (steps .entry) ∷ now (reason .entry) ∷ []) ⌝ }
+        (now (steps .entry) ∷ now (reason .entry) ∷ now (references .entry) ∷ []) ⌝ }
 {
     if state.len() != STATE_WORDS {
         return BAD_CALL;
     }
     let r = run_by(state_in(state), mem, tables, n, first);
-    tell(r, state, steps, reason)
+    tell(r, state, steps, reason, references)
 }
 
 // At most n steps, interrupts and changes of level included. `steps` gets the steps taken, `reason` the reason's
-// number.
+// number, `references` the memory references made.
 #[no_mangle]
 pub extern "C" fn nd110_run(
     state: &mut [u16],
@@ -225,13 +235,14 @@ pub extern "C" fn nd110_run(
     n: u64,
     steps: &mut u64,
     reason: &mut u16,
+    references: &mut u64,
 ) -> u16
     ensures { λ r. ⌜ leftOf r (now (state .exit)) (now (mem .exit)) (now (tables .exit))
-        (now (steps .exit) ∷ now (reason .exit) ∷ [])
+        (now (steps .exit) ∷ now (reason .exit) ∷ now (references .exit) ∷ [])
         ≡ hostRun false n (now (state .entry)) (now (mem .entry)) (now (tables .entry))
-        (now (steps .entry) ∷ now (reason .entry) ∷ []) ⌝ }
+        (now (steps .entry) ∷ now (reason .entry) ∷ now (references .entry) ∷ []) ⌝ }
 {
-    run_words(state, mem, tables, n, false, steps, reason)
+    run_words(state, mem, tables, n, false, steps, reason, references)
 }
 
 // At most n steps, up to the first that gives an interrupt, or before a change of level.
@@ -243,13 +254,14 @@ pub extern "C" fn nd110_run_to_interrupt(
     n: u64,
     steps: &mut u64,
     reason: &mut u16,
+    references: &mut u64,
 ) -> u16
     ensures { λ r. ⌜ leftOf r (now (state .exit)) (now (mem .exit)) (now (tables .exit))
-        (now (steps .exit) ∷ now (reason .exit) ∷ [])
+        (now (steps .exit) ∷ now (reason .exit) ∷ now (references .exit) ∷ [])
         ≡ hostRun true n (now (state .entry)) (now (mem .entry)) (now (tables .entry))
-        (now (steps .entry) ∷ now (reason .entry) ∷ []) ⌝ }
+        (now (steps .entry) ∷ now (reason .entry) ∷ now (references .entry) ∷ []) ⌝ }
 {
-    run_words(state, mem, tables, n, true, steps, reason)
+    run_words(state, mem, tables, n, true, steps, reason, references)
 }
 
 // What an operation answered that tells no more, and the state that it left, to the lent words.
@@ -365,13 +377,14 @@ fn tell_input(
     handed: &mut u64,
     steps: &mut u64,
     reason: &mut u16,
+    references: &mut u64,
 ) -> u16
     requires { ⌜ length (now state) ≡ stateWords ⌝ }
     ensures { λ n. ⌜ n ≡ runNumber (r .answer) ⌝ }
     ensures { λ n. ⌜ now (state .exit) ≡ cond (eqb n 0) (stateOrdered (r .state)) (now (state .entry)) ⌝ }
-    ensures { λ n. ⌜ (now (handed .exit) ∷ now (steps .exit) ∷ now (reason .exit) ∷ [])
-        ≡ cond (eqb n 0) (r .handed ∷ stepsTaken (r .answer) ∷ reasonGiven (r .answer) ∷ [])
-        (now (handed .entry) ∷ now (steps .entry) ∷ now (reason .entry) ∷ []) ⌝ }
+    ensures { λ n. ⌜ (now (handed .exit) ∷ now (steps .exit) ∷ now (reason .exit) ∷ now (references .exit) ∷ [])
+        ≡ cond (eqb n 0) (r .handed ∷ ranValues (r .answer))
+        (now (handed .entry) ∷ now (steps .entry) ∷ now (reason .entry) ∷ now (references .entry) ∷ []) ⌝ }
 {
     let a = r.answer;
     let n = run_number(a);
@@ -383,12 +396,13 @@ fn tell_input(
     *handed = r.handed as u64;
     *steps = steps_taken(a);
     *reason = reason_given(a);
+    *references = references_made(a);
     0
 }
 
 // At most n steps, up to the first that gives an interrupt, or before a change of level, with device input: the input
 // what[i] after at[i] steps, and to told[i] what it was told; the three lists have one length. `handed` gets how many
-// were handed in, `steps` the steps taken, `reason` the reason's number.
+// were handed in, `steps` the steps taken, `reason` the reason's number, `references` the memory references made.
 #[no_mangle]
 pub extern "C" fn nd110_run_with_input(
     state: &mut [u16],
@@ -401,12 +415,14 @@ pub extern "C" fn nd110_run_with_input(
     handed: &mut u64,
     steps: &mut u64,
     reason: &mut u16,
+    references: &mut u64,
 ) -> u16
     ensures { λ r. ⌜ leftOf r (now (state .exit)) (now (mem .exit)) (now (tables .exit))
-        (now (told .exit) ++ (now (handed .exit) ∷ now (steps .exit) ∷ now (reason .exit) ∷ []))
+        (now (told .exit)
+        ++ (now (handed .exit) ∷ now (steps .exit) ∷ now (reason .exit) ∷ now (references .exit) ∷ []))
         ≡ hostInputRun n (now (at .entry)) (now (what .entry)) (now (told .entry)) (now (state .entry))
         (now (mem .entry)) (now (tables .entry))
-        (now (handed .entry) ∷ now (steps .entry) ∷ now (reason .entry) ∷ []) ⌝ }
+        (now (handed .entry) ∷ now (steps .entry) ∷ now (reason .entry) ∷ now (references .entry) ∷ []) ⌝ }
 {
     if state.len() != STATE_WORDS {
         return BAD_CALL;
@@ -418,7 +434,7 @@ pub extern "C" fn nd110_run_with_input(
         return BAD_CALL;
     }
     let r = run_with_input(state_in(state), mem, tables, n, at, what, told);
-    tell_input(r, state, handed, steps, reason)
+    tell_input(r, state, handed, steps, reason, references)
 }
 
 // The machine of an image.

@@ -64,7 +64,7 @@ pub fn run_with_input(
             let control = r.control;
             let reason = r.reason;
             InputRunResult {
-                answer: RunAnswer::Ran(r.steps, reason),
+                answer: RunAnswer::Ran(r.steps, reason, r.references),
                 handed: r.handed,
                 state: State::with(r.level, control, regs, pcrs),
             }

@@ -42,7 +42,7 @@ pub fn run_by(s: State, mem: &mut [u16], tables: &mut [u16], n: u64, first: bool
             let control = r.control;
             let reason = r.reason;
             RunResult {
-                answer: RunAnswer::Ran(r.steps, reason),
+                answer: RunAnswer::Ran(r.steps, reason, r.references),
                 state: State::with(r.level, control, regs, pcrs),
             }
         }

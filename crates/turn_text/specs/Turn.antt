@@ -34,7 +34,7 @@ endOf w k s = record {
 }
 
 abbrev pub ranBy : RunAnswer → State → Turned
-ranBy (Ran k w) s = Ended (endOf w k s)
+ranBy (Ran k w g) s = Ended (endOf w k s)
 ranBy (RunRefused r) s = Refused r
 
 -- "runs through at most 1,000 steps"

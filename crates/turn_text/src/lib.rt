@@ -128,7 +128,7 @@ fn run_state(s: State, mem: &mut [u16], tables: &mut [u16]) -> Turned
     let a = ran.answer;
     let after = ran.state;
     match a {
-        RunAnswer::Ran(k, w) => Turned::Ended(end_of(w, k, after)),
+        RunAnswer::Ran(k, w, _) => Turned::Ended(end_of(w, k, after)),
         RunAnswer::Refused(r) => Turned::Refused(r),
     }
 }

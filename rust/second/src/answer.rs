@@ -1,5 +1,5 @@
-//! Answers: internal interrupts, refusals, the reasons a run ends, and what device
-//! input is told.
+//! Answers: internal interrupts, refusals, how a run ended, and what device input is
+//! told.
 
 /// Internal interrupts by number. 8 (parity) and 10 (power) never occur here.
 #[derive(Clone, Copy, Debug, PartialEq, Eq)]
@@ -81,6 +81,16 @@ impl Reason {
             Reason::Interrupt => "interrupt",
         }
     }
+}
+
+/// How a run ended.
+#[derive(Clone, Copy, Debug, PartialEq, Eq)]
+pub struct Ran {
+    /// Steps taken.
+    pub steps: u64,
+    pub reason: Reason,
+    /// Memory references of all steps, modulo 2^64.
+    pub references: u64,
 }
 
 /// What a device input is told.

@@ -1,6 +1,6 @@
 //! Device input: what a host hands in between steps, and runs with a list of it.
 
-use crate::answer::{Reason, Refusal, Told};
+use crate::answer::{Ran, Reason, Refusal, Told};
 use crate::machine::{Machine, check_machine};
 use crate::state::State;
 
@@ -96,7 +96,20 @@ pub fn read_out(state: &mut State, memory: &[u16], tables: &[u16]) -> Result<Opt
 pub struct Session {
     pub steps: u64,
     pub reason: Reason,
+    /// Memory references of all steps, modulo 2^64.
+    pub references: u64,
     pub told: Vec<Told>,
+}
+
+impl Session {
+    pub(crate) fn of(ran: Ran, told: Vec<Told>) -> Session {
+        Session {
+            steps: ran.steps,
+            reason: ran.reason,
+            references: ran.references,
+            told,
+        }
+    }
 }
 
 /// Runs to the first interrupt, at most `steps` steps. Each input comes with the
@@ -114,21 +127,12 @@ pub fn run_with_input(
     let mut taken = 0;
     let mut told = Vec::new();
     for &(at, input) in inputs.iter().take_while(|(at, _)| *at <= steps) {
-        let (now, reason) = machine.run(taken, at, true);
-        taken = now;
-        if reason != Reason::Spent {
-            return Ok(Session {
-                steps: taken,
-                reason,
-                told,
-            });
+        let ran = machine.run(taken, at, true);
+        if ran.reason != Reason::Spent {
+            return Ok(Session::of(ran, told));
         }
+        taken = ran.steps;
         told.push(machine.state.take(input));
     }
-    let (steps, reason) = machine.run(taken, steps, true);
-    Ok(Session {
-        steps,
-        reason,
-        told,
-    })
+    Ok(Session::of(machine.run(taken, steps, true), told))
 }

@@ -25,7 +25,7 @@ mod step;
 mod system;
 pub mod vectors;
 
-pub use answer::{Interrupt, Reason, Refusal, Told};
+pub use answer::{Interrupt, Ran, Reason, Refusal, Told};
 pub use decode::{
     AddOne, BitOp, Instr, JumpCond, Logic, MemOp, Mode, PhysicalOp, Reg, ShiftKind, ShiftReg,
     SkipCond, Transfer, decode,

@@ -9,6 +9,8 @@ pub(crate) struct Machine<'a> {
     pub state: &'a mut State,
     pub memory: &'a mut [u16],
     pub tables: &'a mut [u16; TABLE_WORDS],
+    /// Memory references made so far, modulo 2^64.
+    pub references: u64,
 }
 
 /// Refusal 1: memory or tables of another size than document 01 gives.
@@ -44,6 +46,7 @@ impl<'a> Machine<'a> {
             state,
             memory,
             tables,
+            references: 0,
         })
     }
 

@@ -81,7 +81,14 @@ impl Machine<'_> {
         }
     }
 
-    /// Tests and marks one access. A failed one is reported to PGS (2 and 3 only).
+    /// Counts an access, whether it then passes or fails.
+    #[inline(always)]
+    fn count_reference(&mut self) {
+        self.references = self.references.wrapping_add(1);
+    }
+
+    /// Counts, tests and marks one access. A failed one is reported to PGS (2 and 3
+    /// only).
     #[inline(always)]
     pub fn access(
         &mut self,
@@ -89,6 +96,7 @@ impl Machine<'_> {
         table: Table,
         access: Access,
     ) -> Result<Place, Interrupt> {
+        self.count_reference();
         let pcr = self.state.pcr[usize::from(self.state.level & 15)];
         let ring = pcr & 3;
         let paging = self.state.paging_on != 0;
@@ -152,7 +160,7 @@ impl Machine<'_> {
         Ok(Place::Memory(physical))
     }
 
-    /// A physical address of memory.
+    /// A physical address of memory, not counted.
     #[cfg_attr(feature = "inlined", inline(always))]
     pub fn physical(&self, address: u64) -> Result<Place, Interrupt> {
         if address < self.memory.len() as u64 {
@@ -162,10 +170,18 @@ impl Machine<'_> {
         }
     }
 
-    /// A physical address of memory or, in the window, of the page tables: on
-    /// every ring, paging on or off.
+    /// Counts and tests one access by a physical address of memory.
     #[cfg_attr(feature = "inlined", inline(always))]
-    pub fn physical_or_table(&self, address: u64) -> Result<Place, Interrupt> {
+    pub fn access_memory(&mut self, address: u64) -> Result<Place, Interrupt> {
+        self.count_reference();
+        self.physical(address)
+    }
+
+    /// Counts and tests one access by a physical address of memory or, in the
+    /// window, of the page tables: on every ring, paging on or off.
+    #[cfg_attr(feature = "inlined", inline(always))]
+    pub fn access_memory_or_table(&mut self, address: u64) -> Result<Place, Interrupt> {
+        self.count_reference();
         let window = u64::from(self.window());
         if (window..=u64::from(u16::MAX)).contains(&address) {
             Ok(Place::Tables((address - window) as usize))

@@ -1,6 +1,6 @@
 //! One step, and runs.
 
-use crate::answer::{Interrupt, Reason, Refusal};
+use crate::answer::{Interrupt, Ran, Reason, Refusal};
 use crate::decode::Reg;
 use crate::machine::Machine;
 use crate::paging::{Access, Table};
@@ -28,23 +28,28 @@ impl Machine<'_> {
     }
 
     /// Goes on from `taken` steps to `steps`, if these are more: through, or to the
-    /// first interrupt. Answers the steps taken in all and why it ended.
-    pub fn run(&mut self, mut taken: u64, steps: u64, to_first_interrupt: bool) -> (u64, Reason) {
-        loop {
+    /// first interrupt. Answers steps and references in all, and why it ended.
+    pub fn run(&mut self, mut taken: u64, steps: u64, to_first_interrupt: bool) -> Ran {
+        let reason = loop {
             if self.state.stopped != 0 {
-                return (taken, Reason::Stopped);
+                break Reason::Stopped;
             }
             if to_first_interrupt && self.state.change_due() {
-                return (taken, Reason::Level);
+                break Reason::Level;
             }
             if taken >= steps {
-                return (taken, Reason::Spent);
+                break Reason::Spent;
             }
             let interrupt = self.step();
             taken += 1;
             if to_first_interrupt && interrupt.is_some() {
-                return (taken, Reason::Interrupt);
+                break Reason::Interrupt;
             }
+        };
+        Ran {
+            steps: taken,
+            reason,
+            references: self.references,
         }
     }
 
@@ -68,15 +73,14 @@ pub fn step(
     Ok(Machine::new(state, memory, tables)?.step())
 }
 
-/// Runs at most `steps` steps: through, or to the first interrupt. Answers the
-/// steps taken and why the run ended. Refuses 1, 2.
+/// Runs at most `steps` steps: through, or to the first interrupt. Refuses 1, 2.
 pub fn run(
     state: &mut State,
     memory: &mut [u16],
     tables: &mut [u16],
     steps: u64,
     to_first_interrupt: bool,
-) -> Result<(u64, Reason), Refusal> {
+) -> Result<Ran, Refusal> {
     Ok(Machine::new(state, memory, tables)?.run(0, steps, to_first_interrupt))
 }
 

@@ -60,12 +60,12 @@ impl Machine<'_> {
                 }
             }
             Instr::Exam => {
-                let place = self.physical(self.long_address())?;
+                let place = self.access_memory(self.long_address())?;
                 let value = self.read(place);
                 self.set(Reg::T, value);
             }
             Instr::Depo => {
-                let place = self.physical(self.long_address())?;
+                let place = self.access_memory(self.long_address())?;
                 self.store(place, self.get(Reg::T));
             }
             Instr::Physical { op, disp } => self.physical_transfer(op, disp)?,
@@ -131,19 +131,20 @@ impl Machine<'_> {
 
     /// Places from T x 65,536 + X + displacement on; no carry is dropped.
     #[cfg_attr(feature = "inlined", inline(always))]
-    fn physical_places<const N: usize>(&self, disp: u16) -> Result<[Place; N], Interrupt> {
+    fn physical_places<const N: usize>(&mut self, disp: u16) -> Result<[Place; N], Interrupt> {
         let bank = u64::from(self.get(Reg::T)) << 16;
         let first = bank + u64::from(self.get(Reg::X)) + u64::from(disp);
         let mut places = [Place::Memory(0); N];
         for (address, place) in (first..).zip(&mut places) {
-            *place = self.physical_or_table(address)?;
+            *place = self.access_memory_or_table(address)?;
         }
         Ok(places)
     }
 
     #[cfg_attr(feature = "inlined", inline(always))]
-    fn physical_words<const N: usize>(&self, disp: u16) -> Result<[u16; N], Interrupt> {
-        Ok(self.physical_places(disp)?.map(|place| self.read(place)))
+    fn physical_words<const N: usize>(&mut self, disp: u16) -> Result<[u16; N], Interrupt> {
+        let places: [Place; N] = self.physical_places(disp)?;
+        Ok(places.map(|place| self.read(place)))
     }
 
     #[cfg_attr(feature = "inlined", inline(always))]

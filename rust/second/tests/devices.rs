@@ -670,10 +670,12 @@ const COUNT: [u16; 2] = [0o173401, 0o124377];
 use Input::{Raise, ReadOut, Tick, Typed};
 use Told::{Character, Done, Refused};
 
+/// A run of instructions that make no access beside the fetch.
 fn ended(steps: u64, reason: Reason, told: &[Told]) -> Session {
     Session {
         steps,
         reason,
+        references: steps,
         told: told.to_vec(),
     }
 }
@@ -877,7 +879,12 @@ fn a_run_without_input_is_the_run_to_the_first_interrupt() {
         let session = run_with_input(s, m, t, steps, &[(u64::MAX, Tick)]);
         let (s, m, t) = (&mut two.state, &mut two.memory, &mut two.tables);
         let ran = run(s, m, t, steps, true);
-        let ran = ran.map(|(steps, reason)| ended(steps, reason, &[]));
+        let ran = ran.map(|ran| Session {
+            steps: ran.steps,
+            reason: ran.reason,
+            references: ran.references,
+            told: Vec::new(),
+        });
         assert_eq!(session, ran);
         assert_eq!(one, two);
     }

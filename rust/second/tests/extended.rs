@@ -82,6 +82,7 @@ fn status_has_the_flag_in_bit_13() {
         let mut case = Case::of(0).with(P, 0);
         case.m[..3].copy_from_slice(&[word, 0o150001, 0o151000]);
         let ended = run(&mut case.s, &mut case.m, &mut case.t, 9, false);
+        let ended = ended.map(|ran| (ran.steps, ran.reason));
         assert_eq!(ended, Ok((3, Reason::Stopped)));
         case.has(&[(A, a), (P, 3)]);
     }

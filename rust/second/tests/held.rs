@@ -299,7 +299,12 @@ fn the_handler_reads_the_first_fault() {
     case.s.iie = 1 << 3 | 1 << 2;
     // The fault, the change of level, the second fault, TRA PGS, WAIT.
     let answer = run(&mut case.s, &mut case.m, &mut case.t, 5, false);
-    assert_eq!(answer, Ok((5, Reason::Spent)));
+    let ran = Ran {
+        steps: 5,
+        reason: Reason::Spent,
+        references: 1 + 1 + 2 + 1 + 1,
+    };
+    assert_eq!(answer, Ok(ran));
     assert_eq!((case.s.level, case.s.pid), (14, 0o2));
     let case = case.status(0o040001, 0);
     case.has(&[(A, 0o040001), (P, 0o203)]);

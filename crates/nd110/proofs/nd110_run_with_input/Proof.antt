@@ -23,7 +23,7 @@ use Rattle.nd110.proofs.nd110_run_with_input.Tie as tie
 
 abbrev running : tie.After-tell-input → tie.After-run-with-input
 running c =
-    let told = c .before .before .before .before in
+    let told = c .before .before .before .before .before in
     let tables = told .before .before .before .before in
     tables .before .before .before
 
@@ -37,7 +37,8 @@ started c =
 abbrev made : tie.Start → Left
 made k =
     let a = k .args in
-    inputRunEnd (a .state .now) (a .told .now) (a .handed .now ∷ a .steps .now ∷ a .reason .now ∷ [])
+    inputRunEnd (a .state .now) (a .told .now)
+    (a .handed .now ∷ a .steps .now ∷ a .reason .now ∷ a .references .now ∷ [])
     (inputRunCall (a .n) (givenOf (a .at .now) (a .what .now)) (stateIn (a .state .now)) (a .mem .now) (a .tables .now))
 
 abbrev equal : tie.Start → Bool
@@ -96,7 +97,7 @@ returns-4 c =
     let w = a .state .now in
     let m = a .mem .now in
     let t = a .tables .now in
-    let y = a .handed .now ∷ a .steps .now ∷ a .reason .now ∷ [] in
+    let y = a .handed .now ∷ a .steps .now ∷ a .reason .now ∷ a .references .now ∷ [] in
     let r = done .run-with-input in
     let back = r .last .1 in
     let words = back .1 .1 .1 .1 .1 .0 in

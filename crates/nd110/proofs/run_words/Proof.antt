@@ -15,7 +15,7 @@ started c = let tested = c .before .before .before in tested .before .before .be
 
 -- where the answer was told: before it the run
 abbrev running : tie.After-tell → tie.After-run-by
-running c = let lent = c .before .before .before .before in lent .before .before .before .before
+running c = let lent = c .before .before .before .before .before in lent .before .before .before .before
 
 -- a state of another length
 returns : tie.Need-returns
@@ -48,7 +48,7 @@ returns-2 c =
     let a = started entered .args in
     let m = a .mem .now in
     let t = a .tables .now in
-    let y = a .steps .now ∷ a .reason .now ∷ [] in
+    let y = a .steps .now ∷ a .reason .now ∷ a .references .now ∷ [] in
     called-well (λ (s : State). runCall (a .first) (a .n) s m t) (runEnd (a .state .now) y) (a .state .now) m t y _ _ _
     (entered .before .before .if1 .left) (entered .state-in .ensures) (done .run-by .ensures) (told .tell .ensures _ _)
 

@@ -22,16 +22,20 @@ steps-taken-requires c κs = search needs
 reason-given-requires : tie.Need-reason-given-requires
 reason-given-requires c κs = search needs
 
+references-made-requires : tie.Need-references-made-requires
+references-made-requires c κs = search needs
+
 same-length : tie.Need-same-length
 same-length c = search needs
 
 -- otherwise
 returns-2 : tie.Need-returns-2
 returns-2 c = λ m t.
-    let stored = c .before .before .before .before in
+    let told = c .before in
+    let stored = told .before .before .before .before in
     let left = stored .before .before .before in
     ended-done _ _ _ m t _ _ _ (left .before .run-number .ensures) _ _ (left .if1 .left) (stored .put-state .ensures)
-    (λ i. c .before .steps-taken .ensures i ∷ c .reason-given .ensures i ∷ [])
+    (λ i. told .before .steps-taken .ensures i ∷ told .reason-given .ensures i ∷ c .references-made .ensures i ∷ [])
 
 pub tell-spec : {M : Type 1} → statement M
 tell-spec =
@@ -42,5 +46,6 @@ tell-spec =
     put-state-requires
     steps-taken-requires
     reason-given-requires
+    references-made-requires
     same-length
     returns-2)

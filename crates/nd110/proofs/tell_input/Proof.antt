@@ -24,19 +24,24 @@ steps-taken-requires c κs = search needs
 reason-given-requires : tie.Need-reason-given-requires
 reason-given-requires c κs = search needs
 
+references-made-requires : tie.Need-references-made-requires
+references-made-requires c κs = search needs
+
 same-length : tie.Need-same-length
 same-length c = search needs
 
 -- done
 returns-2 : tie.Need-returns-2
 returns-2 c =
-    let stored = c .before .before .before .before in
+    let told = c .before in
+    let stored = told .before .before .before .before in
     let left = stored .before .before .before in
     let a = left .before .before .before .args in (
       sym (left .if1 .left) ∙ left .before .run-number .ensures,
       (
         stored .put-state .ensures,
-        λ i. a .r .handed ∷ c .before .steps-taken .ensures i ∷ c .reason-given .ensures i ∷ [],
+        λ i. a .r .handed
+            ∷ told .before .steps-taken .ensures i ∷ told .reason-given .ensures i ∷ c .references-made .ensures i ∷ [],
       ),
     )
 
@@ -49,5 +54,6 @@ tell-input-spec =
     put-state-requires
     steps-taken-requires
     reason-given-requires
+    references-made-requires
     same-length
     returns-2)

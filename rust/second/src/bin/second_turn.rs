@@ -1,6 +1,6 @@
 //! The program `turn` of document 01, by this engine.
 
-use second::{PAGE, Reason, Refusal, Reg, State, TABLE_WORDS, load, run};
+use second::{PAGE, Ran, Refusal, Reg, State, TABLE_WORDS, load, run};
 use std::io::{self, Read, Write};
 use std::process::ExitCode;
 
@@ -13,7 +13,7 @@ registers, or `refused N`.";
 
 const MAX_BYTES: usize = 65_536;
 
-fn turn(input: &[u8]) -> Result<(State, u64, Reason), Refusal> {
+fn turn(input: &[u8]) -> Result<(State, Ran), Refusal> {
     if input.len() > MAX_BYTES || !input.len().is_multiple_of(2) {
         return Err(Refusal::Bodies);
     }
@@ -24,8 +24,8 @@ fn turn(input: &[u8]) -> Result<(State, u64, Reason), Refusal> {
     let mut memory = vec![0; 16 * PAGE];
     let mut tables = vec![0; TABLE_WORDS];
     let mut state = load(&image, &mut memory, &mut tables)?;
-    let (steps, reason) = run(&mut state, &mut memory, &mut tables, 1_000, false)?;
-    Ok((state, steps, reason))
+    let ran = run(&mut state, &mut memory, &mut tables, 1_000, false)?;
+    Ok((state, ran))
 }
 
 fn main() -> ExitCode {
@@ -38,9 +38,9 @@ fn main() -> ExitCode {
             .read_to_end(&mut input)?;
         let mut out = io::stdout().lock();
         match turn(&input) {
-            Ok((state, steps, reason)) => {
-                writeln!(out, "ended {}", reason.name())?;
-                writeln!(out, "steps {steps}")?;
+            Ok((state, ran)) => {
+                writeln!(out, "ended {}", ran.reason.name())?;
+                writeln!(out, "steps {}", ran.steps)?;
                 writeln!(out, "level {}", state.level)?;
                 for reg in Reg::ALL {
                     writeln!(out, "{} {:06o}", reg.name(), state.reg(reg))?;

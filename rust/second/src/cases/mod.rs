@@ -9,11 +9,12 @@ mod held;
 mod images;
 mod instructions;
 mod pages;
+mod references;
 mod runs;
 mod system;
 mod words;
 
-use crate::answer::{Interrupt, Reason, Refusal, Told};
+use crate::answer::{Interrupt, Ran, Reason, Refusal, Told};
 use crate::decode::Reg;
 use crate::image::{Target, load, view, view_number, write};
 use crate::input::{Input, Session, raise, read_out, run_with_input, tick, type_character};
@@ -29,7 +30,7 @@ pub type Lines = (String, String);
 type Group = (&'static str, fn() -> Vec<Lines>);
 
 /// The programs `crates/check_NAME`, each with its groups of cases.
-pub const PROGRAMS: [(&str, &[Group]); 6] = [
+pub const PROGRAMS: [(&str, &[Group]); 7] = [
     (
         "instructions",
         &[
@@ -82,6 +83,19 @@ pub const PROGRAMS: [(&str, &[Group]); 6] = [
         ],
     ),
     (
+        "references",
+        &[
+            ("instructions", || lines(&references::instructions())),
+            ("executed", || lines(&references::executed())),
+            ("window", || lines(&references::window())),
+            ("faults", || lines(&references::faults())),
+            ("ends", || lines(&references::ends())),
+            ("programs", || lines(&references::programs())),
+            ("input", || lines(&references::input())),
+            ("random", || lines(&references::random())),
+        ],
+    ),
+    (
         "floating",
         &[
             ("examples", floating::examples),
@@ -119,6 +133,10 @@ pub enum Operation {
     /// So many steps; the inputs as words, each with the number of steps before it.
     WithInput(u64, Vec<(u64, u16)>),
 }
+
+/// What an answer's line begins with: the refusal's number or 0, and three more
+/// numbers.
+type Numbers = (u16, u64, u64, u64);
 
 /// The level that runs in the base machine.
 pub const LEVEL: usize = 3;
@@ -377,9 +395,9 @@ impl Case {
     /// The answer's line.
     pub fn answer(&self) -> String {
         let mut end = self.clone();
-        let (refusal, first, second) = end.act();
+        let (refusal, first, second, third) = end.act();
         let words = end.state.to_words();
-        let mut text = format!("{refusal} {first} {second}");
+        let mut text = format!("{refusal} {first} {second} {third}");
         let parts: [&[u16]; 4] = [
             &words[..REGISTER_WORDS],
             &words[REGISTER_WORDS..],
@@ -396,13 +414,13 @@ impl Case {
         text
     }
 
-    /// Does the operation: the refusal's number or 0, and two more numbers.
-    fn act(&mut self) -> (u16, u64, u64) {
+    /// Does the operation.
+    fn act(&mut self) -> Numbers {
         let (state, memory, tables) = (&mut self.state, &mut self.memory, &mut self.tables);
-        let refused = |refusal: Refusal| (refusal.number(), 0, 0);
+        let refused = |refusal: Refusal| (refusal.number(), 0, 0, 0);
         match &self.operation {
             Operation::Step => step(state, memory, tables).map_or_else(refused, |interrupt| {
-                (0, interrupt.map_or(0, Interrupt::number).into(), 0)
+                (0, interrupt.map_or(0, Interrupt::number).into(), 0, 0)
             }),
             Operation::Through(steps) => {
                 run(state, memory, tables, *steps, false).map_or_else(refused, ended)
@@ -411,21 +429,21 @@ impl Case {
                 run(state, memory, tables, *steps, true).map_or_else(refused, ended)
             }
             Operation::Raise(level) => {
-                raise(state, memory, tables, *level).map_or_else(refused, |()| (0, 0, 0))
+                raise(state, memory, tables, *level).map_or_else(refused, |()| (0, 0, 0, 0))
             }
             Operation::Load(image) => load(image, memory, tables).map_or_else(refused, |loaded| {
                 *state = loaded;
-                (0, 0, 0)
+                (0, 0, 0, 0)
             }),
             Operation::Write(length) => {
                 let mut out = base_memory(*length);
                 let answer = write(state, memory, tables, &mut out);
-                (number(answer.err()), sum(&out), 0)
+                (number(answer.err()), sum(&out), 0, 0)
             }
             Operation::View(target, start, length) => {
                 let refusal = view_number(memory, tables, *target, *start, *length);
                 let part = view(memory, tables, *target, *start, *length);
-                (number(refusal), part.len() as u64, sum(part))
+                (number(refusal), part.len() as u64, sum(part), 0)
             }
             Operation::WriteLoad(length) => {
                 let mut out = base_memory(*length);
@@ -438,17 +456,18 @@ impl Case {
                 if let Ok(loaded) = loaded {
                     *state = loaded;
                 }
-                (refusal, sum(&out), number(written).into())
+                (refusal, sum(&out), number(written).into(), 0)
             }
-            Operation::Tick => tick(state, memory, tables).map_or_else(refused, |()| (0, 0, 0)),
+            Operation::Tick => tick(state, memory, tables).map_or_else(refused, |()| (0, 0, 0, 0)),
             Operation::Typed(character) => {
                 let answer = type_character(state, memory, tables, *character);
-                answer.map_or_else(refused, |()| (0, 0, 0))
+                answer.map_or_else(refused, |()| (0, 0, 0, 0))
             }
             Operation::ReadOut => {
                 let answer = read_out(state, memory, tables);
                 answer.map_or_else(refused, |sent| {
-                    (0, sent.map_or(Told::None, Told::Character).word().into(), 0)
+                    let told = sent.map_or(Told::None, Told::Character);
+                    (0, told.word().into(), 0, 0)
                 })
             }
             Operation::WithInput(steps, inputs) => {
@@ -475,19 +494,17 @@ fn reason_number(reason: Reason) -> u64 {
     }
 }
 
-/// The reason, then the steps.
-fn ended((steps, reason): (u64, Reason)) -> (u16, u64, u64) {
-    (0, reason_number(reason), steps)
+/// The reason, the steps, the references.
+fn ended(ran: Ran) -> Numbers {
+    (0, reason_number(ran.reason), ran.steps, ran.references)
 }
 
-/// The reason with the checksum of what the inputs were told, then the steps.
-fn ended_with_input(session: Session) -> (u16, u64, u64) {
+/// The reason with the checksum of what the inputs were told, the steps, the
+/// references.
+fn ended_with_input(session: Session) -> Numbers {
     let told: Vec<u16> = session.told.into_iter().map(Told::word).collect();
-    (
-        0,
-        reason_number(session.reason) + 8 * sum(&told),
-        session.steps,
-    )
+    let reason = reason_number(session.reason) + 8 * sum(&told);
+    (0, reason, session.steps, session.references)
 }
 
 /// Checksum of words: each counts by its place.

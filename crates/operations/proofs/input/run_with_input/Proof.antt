@@ -128,7 +128,7 @@ returns c =
     sym (known .enum-told .given .1) ∙ state-answered (asked known) in
     let whole =
     ap (λ (x : State). inputRunOf
-    (record { answer = Ran (ran .steps) (ran .reason); handed = ran .handed; state = x }) words
+    (record { answer = Ran (ran .steps) (ran .reason) (ran .references); handed = ran .handed; state = x }) words
     (lent-back .0) (lent-back .1 .0)) (c .with .ensures)
     ∙ ap inputRanCall (running .run-with-input .ensures .0)
     ∙ ap (λ (x : State). inputRanCall (inputRunFrom (a .n) (inputs start) 0 x (a .mem .now) (a .tables .now)))

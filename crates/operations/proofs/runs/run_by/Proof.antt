@@ -109,8 +109,9 @@ returns c =
     let done : Done ≡ stateAnswer s (a .mem .now) (a .tables .now) =
     sym (told .enum-told .given .1) ∙ state-answered (asked told) in
     run-told (a .first) (a .n) s (a .mem .now) (a .tables .now) _
-    (ap (λ (x : State). runOf (record { answer = Ran (ran .steps) (ran .reason); state = x }) (lent-back .0)
-    (lent-back .1 .0)) (c .with .ensures)
+    (ap
+    (λ (x : State). runOf (record { answer = Ran (ran .steps) (ran .reason) (ran .references); state = x })
+    (lent-back .0) (lent-back .1 .0)) (c .with .ensures)
     ∙ ap ranCall (running .run .ensures .1 .0)
     ∙ ap (λ (x : State). ranCall (runFrom (a .first) (a .n) 0 x (a .mem .now) (a .tables .now)))
     (parts-state s (controlled (asked told) .control-words .ensures))

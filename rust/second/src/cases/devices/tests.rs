@@ -1,8 +1,8 @@
 //! The cases do what they say, and tell engines that are wrong about the devices.
 
 use super::*;
-use crate::answer::{Interrupt, Reason, Refusal, Told};
-use crate::cases::{ended, ended_with_input};
+use crate::answer::{Interrupt, Ran, Reason, Refusal, Told};
+use crate::cases::{Numbers, ended, ended_with_input};
 use crate::decode::{Instr, decode};
 use crate::input::{Input, Session};
 use crate::machine::{Machine, check_sizes};
@@ -439,23 +439,31 @@ impl Engine<'_> {
     }
 
     /// A run through or to the first interrupt.
-    fn run(&mut self, steps: u64, first: bool) -> (u64, Reason) {
+    fn run(&mut self, steps: u64, first: bool) -> Ran {
         for taken in 0.. {
             let state = &self.machine.state;
             if state.stopped == 1 {
-                return (taken, Reason::Stopped);
+                return self.ran(taken, Reason::Stopped);
             }
             if first && state.change_due() {
-                return (taken, Reason::Level);
+                return self.ran(taken, Reason::Level);
             }
             if taken == steps {
                 break;
             }
             if self.step().is_some() && first {
-                return (taken + 1, Reason::Interrupt);
+                return self.ran(taken + 1, Reason::Interrupt);
             }
         }
-        (steps, Reason::Spent)
+        self.ran(steps, Reason::Spent)
+    }
+
+    fn ran(&self, steps: u64, reason: Reason) -> Ran {
+        Ran {
+            steps,
+            reason,
+            references: self.machine.references,
+        }
     }
 
     /// The inputs as a wrong engine has them.
@@ -528,16 +536,12 @@ impl Engine<'_> {
                 break Reason::Interrupt;
             }
         };
-        Session {
-            steps: taken,
-            reason,
-            told,
-        }
+        Session::of(self.ran(taken, reason), told)
     }
 }
 
 /// What a case is answered, and the machine that is left.
-type Followed = ((u16, u64, u64), Case);
+type Followed = (Numbers, Case);
 
 /// An operation that hands an input in.
 fn handed_in(operation: &Operation) -> Option<Input> {
@@ -559,7 +563,7 @@ fn follow(case: &Case, slip: Slip) -> Followed {
     }
     let mut end = case.clone();
     let answer = match refusal(&mut end, slip) {
-        Some(refusal) => (refusal.number(), 0, 0),
+        Some(refusal) => (refusal.number(), 0, 0, 0),
         None => act(&mut end, slip),
     };
     (answer, end)
@@ -580,17 +584,20 @@ fn refusal(case: &mut Case, slip: Slip) -> Option<Refusal> {
 }
 
 /// An input, a step or a run, of a machine that is not refused.
-fn act(case: &mut Case, slip: Slip) -> (u16, u64, u64) {
+fn act(case: &mut Case, slip: Slip) -> Numbers {
     if let Some(input) = handed_in(&case.operation) {
         let state = &mut case.state;
         return match (Model { state, slip }).take(input) {
-            Told::Refused(refusal) => (refusal.number(), 0, 0),
-            told => (0, told.word().into(), 0),
+            Told::Refused(refusal) => (refusal.number(), 0, 0, 0),
+            told => (0, told.word().into(), 0, 0),
         };
     }
     let mut engine = engine(case, slip);
     match &engine.1 {
-        Operation::Step => (0, engine.0.step().map_or(0, Interrupt::number).into(), 0),
+        Operation::Step => {
+            let interrupt = engine.0.step().map_or(0, Interrupt::number);
+            (0, interrupt.into(), 0, 0)
+        }
         Operation::Through(steps) => ended(engine.0.run(*steps, false)),
         Operation::ToInterrupt(steps) => ended(engine.0.run(*steps, true)),
         Operation::WithInput(steps, inputs) => ended_with_input(engine.0.session(*steps, inputs)),
@@ -605,6 +612,7 @@ fn engine(case: &mut Case, slip: Slip) -> (Engine<'_>, &Operation) {
         state: &mut case.state,
         memory: &mut case.memory,
         tables: tables.expect("the size of tables"),
+        references: 0,
     };
     (Engine { machine, slip }, &case.operation)
 }
@@ -730,7 +738,7 @@ fn the_driver_repeats() {
     let mut read = Vec::new();
     let mut levels = HashSet::new();
     for case in labelled("driver") {
-        let ((refusal, first, _), end) = follow(&case, Slip::None);
+        let ((refusal, first, ..), end) = follow(&case, Slip::None);
         assert_eq!(refusal, 0, "{}", case.line());
         levels.insert(end.state.level);
         assert_eq!(end.state.iid, 0, "{}", case.line());
@@ -768,7 +776,7 @@ fn levels_are_entered_and_left() {
 fn nothing_is_left_out() {
     let mut seen = HashSet::new();
     for case in labelled("ring") {
-        let ((_, interrupt, _), _) = follow(&case, Slip::None);
+        let ((_, interrupt, ..), _) = follow(&case, Slip::None);
         let state = &case.state;
         let at = match state.paging_on {
             0 => AT.into(),

@@ -553,7 +553,7 @@ fn followed_as_answered() {
             continue;
         };
         let mut answered = case.clone();
-        let (refusal, first, second) = answered.act();
+        let (refusal, first, second, _) = answered.act();
         assert_eq!(refusal, 0);
         match case.operation {
             Operation::Step => assert_eq!(first, u64::from(interrupts.last().map_or(0, |n| *n))),

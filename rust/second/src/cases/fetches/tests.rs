@@ -98,7 +98,7 @@ fn runs_are_steps() {
     for case in cases() {
         let (trace, stepped) = trace(&case);
         let mut end = case.clone();
-        let (refusal, _, taken) = end.act();
+        let (refusal, _, taken, _) = end.act();
         assert_eq!((refusal, taken), (0, trace.len() as u64), "{}", case.label);
         assert!(same(&end, &stepped), "{}", case.label);
     }
