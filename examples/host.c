@@ -78,15 +78,16 @@ static void raise_level(uint16_t level)
     printf("raise of %u: answer %u, PID %06o\n", (unsigned)level, answer, (unsigned)state.pid);
 }
 
-/* At most n steps. */
+/* At most n steps, and the memory references that they made. */
 static void run(const char *name, uint64_t n)
 {
-    uint64_t steps = 0;
+    uint64_t steps = 0, references = 0;
     uint16_t reason = 0;
-    unsigned answer = nd110_run(ND110_WORDS(&state), LENT(memory), LENT(tables), n, &steps, &reason);
+    unsigned answer = nd110_run(ND110_WORDS(&state), LENT(memory), LENT(tables), n, &steps, &reason, &references);
     if (answer != ND110_DONE)
         refused(name, answer);
-    printf("run: steps %llu, reason %u, P %06o\n", (unsigned long long)steps, (unsigned)reason, reg(ND110_P));
+    printf("run: steps %llu, reason %u, references %llu, P %06o\n", (unsigned long long)steps, (unsigned)reason,
+           (unsigned long long)references, reg(ND110_P));
 }
 
 /* A part of memory, read in place: nd110_view would copy it. */

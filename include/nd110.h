@@ -35,6 +35,14 @@
  *   (nd110_tick, nd110_type, nd110_read_out, or a list of them by nd110_run_with_input). docs/DEVICES.md has their
  *   registers and what is not there.
  *
+ * Memory references
+ *   Each of the three runs tells how many memory references its steps made: words fetched, indirect words, and operand
+ *   words read or written, each access of a word one, so that MIN makes two beside its fetch. An access that fails is
+ *   one, and none comes after it in its step. A word of the page tables that an address of the program reaches counts
+ *   like any other; looking an entry up and marking it is none, nor is a device's register. A change of level makes
+ *   none, and no step makes more than nine. The number is the sum's low 64 bits, 0 for no step. docs/HOST.md has it by
+ *   instruction.
+ *
  * What can be seen, and is refused: every length; every word of the state; every word of an image; the level of a
  * raise; a character typed while the last is unread; the kind, start and length of a view, sums that would wrap
  * included; every word of a number to be converted.
@@ -42,10 +50,10 @@
  * What cannot be seen, and is the caller's to ensure:
  *   - a place that is null, or that no longer holds words (dangling): it is read or written all the same.
  *     ND110_LENT(p, n) hands in the length 0 for a null pointer, which is refused wherever words are needed; a record
- *     that is lent, interrupt, character, handed, steps and reason must not be null;
+ *     that is lent, interrupt, character, handed, steps, reason and references must not be null;
  *   - a length greater than what is lent there: the call reads or writes past the end;
- *   - a record of a program that was compiled with the header of an earlier version: it is shorter, and the call reads
- *     and writes past its end (docs/HOST.md);
+ *   - a program that was compiled with the header of an earlier version: its runs hand in no place for the references,
+ *     and before version 5 its record is shorter; the call writes, or reads, where it must not (docs/HOST.md);
  *   - places that overlap, where the call writes one of them: each is taken to be alone. image and out are lent words
  *     too, and so are the three lists of nd110_run_with_input;
  *   - a place that is not aligned for a word, of at for a number of 64 bits;
@@ -62,7 +70,7 @@ extern "C" {
 #endif
 
 /* The version of this interface; docs/HOST.md tells what each changed. */
-#define ND110_VERSION 5
+#define ND110_VERSION 6
 
 /* Sizes, in words. An image that nd110_write makes has memory + ND110_IMAGE_EXTRA words. */
 #define ND110_STATE_WORDS 168
@@ -181,7 +189,7 @@ typedef char nd110_state_words[sizeof(nd110_state) == ND110_STATE_WORDS * sizeof
 
 /* The words of a record, given by a pointer to it, as the two arguments that the other functions take. The pointer is
  * evaluated twice; a null pointer goes with length 0.
- *   nd110_run(ND110_WORDS(&record), memory, memory_len, tables, tables_len, n, &steps, &reason) */
+ *   nd110_run(ND110_WORDS(&record), memory, memory_len, tables, tables_len, n, &steps, &reason, &references) */
 static inline uint16_t *nd110_record(nd110_state *record) { return (uint16_t *)record; }
 #define ND110_WORDS(record) ND110_LENT(nd110_record(record), ND110_STATE_WORDS)
 
@@ -195,15 +203,16 @@ uint16_t nd110_step_lent(nd110_state *state, uint16_t *memory, size_t memory_len
                          uint16_t *tables, size_t tables_len, uint16_t *interrupt);
 
 /* At most n steps, interrupts and changes of level included. *steps gets how many were taken, *reason why it ended
- * (ND110_STOPPED or ND110_SPENT). ND110_BAD_CALL, ND110_SIZES, ND110_STATE. */
+ * (ND110_STOPPED or ND110_SPENT), *references their memory references. ND110_BAD_CALL, ND110_SIZES, ND110_STATE. */
 uint16_t nd110_run(uint16_t *state, size_t state_len, uint16_t *memory, size_t memory_len,
-                   uint16_t *tables, size_t tables_len, uint64_t n, uint64_t *steps, uint16_t *reason);
+                   uint16_t *tables, size_t tables_len, uint64_t n, uint64_t *steps, uint16_t *reason,
+                   uint64_t *references);
 
 /* At most n steps, up to the first that gives an interrupt, or before a change of level; any of the four reasons.
  * ND110_BAD_CALL, ND110_SIZES, ND110_STATE. */
 uint16_t nd110_run_to_interrupt(uint16_t *state, size_t state_len, uint16_t *memory, size_t memory_len,
                                 uint16_t *tables, size_t tables_len, uint64_t n, uint64_t *steps,
-                                uint16_t *reason);
+                                uint16_t *reason, uint64_t *references);
 
 /* A device raises a level: its PID bit is set. Memory and tables are only measured.
  * ND110_BAD_CALL, ND110_SIZES, ND110_STATE, ND110_RAISE_LEVEL. */
@@ -242,7 +251,7 @@ uint16_t nd110_read_out(uint16_t *state, size_t state_len, const uint16_t *memor
 uint16_t nd110_run_with_input(uint16_t *state, size_t state_len, uint16_t *memory, size_t memory_len,
                               uint16_t *tables, size_t tables_len, uint64_t n, const uint64_t *at, size_t at_len,
                               const uint16_t *what, size_t what_len, uint16_t *told, size_t told_len,
-                              uint64_t *handed, uint64_t *steps, uint16_t *reason);
+                              uint64_t *handed, uint64_t *steps, uint16_t *reason, uint64_t *references);
 
 /* The machine of an image: words, not bytes (an image file has the high byte first). Words that the image does not name
  * become 0. So images that earlier versions wrote load: without words of kind 5 the devices are cleared, 26 or 27

@@ -2,9 +2,9 @@
  * Every function of include/nd110.h called through the archive, with arguments that cannot be taken for one another:
  * state, memory, page tables, image and output have different lengths, and the answers tell the numbers apart. What
  * must come is written by hand from document 01, of console and clock from document 02, card 1, with document 000, of a
- * paging fault that is held from card 3, of extended mode and the largest memory from card 4, of the conversions from
- * card 12. rust/nd110/tests/calls.rs is the same through the Rust crate, with devices.rs, held.rs, extended.rs and
- * largest.rs beside it.
+ * paging fault that is held from card 3, of extended mode and the largest memory from card 4, of memory references from
+ * card 7, of the conversions from card 12. rust/nd110/tests/calls.rs is the same through the Rust crate, with
+ * devices.rs, held.rs, extended.rs, largest.rs and references.rs beside it.
  */
 #include "nd110.h"
 #include <stdio.h>
@@ -34,11 +34,15 @@ static struct machine m;
 #define TABLES m.tables, WORDS(m.tables)
 #define OUT m.out, WORDS(m.out)
 #define NO_INPUT NULL, 0, NULL, 0, NULL, 0
-#define TOLD &handed[1], &steps[1], &reason[1]
+#define RAN &steps[1], &reason[1], &references[1]
+#define TOLD &handed[1], RAN
 
 /* Where the rest of an answer is told. A number that is written in a wrong width shows in the words beside it. */
 static uint16_t interrupt[5], reason[5], character[5];
-static uint64_t steps[3], handed[3];
+static uint64_t steps[3], handed[3], references[3];
+
+/* What references are filled with: all 64 bits, so that one that is written in 32 shows too. */
+#define UNTOLD UINT64_MAX
 
 static int failures;
 
@@ -163,7 +167,7 @@ static void places(void)
     IS(ND110_TABLE_WORDS, 512);
     IS(ND110_MEMORY_MOST, 16777216);
     IS(ND110_IMAGE_EXTRA, 706);
-    IS(ND110_VERSION, 5);
+    IS(ND110_VERSION, 6);
     IS(ND110_UNREAD, 11);
     IS(ND110_TICK, 256);
     IS(ND110_READ_OUT, 257);
@@ -218,6 +222,8 @@ static void fill(void)
         interrupt[i] = reason[i] = character[i] = GUARD;
     for (size_t i = 0; i < WORDS(steps); i++)
         steps[i] = handed[i] = GUARD;
+    for (size_t i = 0; i < WORDS(references); i++)
+        references[i] = UNTOLD;
 }
 
 static void guards(void)
@@ -246,6 +252,8 @@ static void guards(void)
     IS(steps[2], GUARD);
     IS(handed[0], GUARD);
     IS(handed[2], GUARD);
+    IS(references[0], UNTOLD);
+    IS(references[2], UNTOLD);
 }
 
 static void loaded(void)
@@ -275,12 +283,14 @@ static void stepped(void)
 static void through(void)
 {
     stepped();
-    IS(nd110_run(STATE, MEMORY, TABLES, 3, &steps[1], &reason[1]), 0);
+    IS(nd110_run(STATE, MEMORY, TABLES, 3, RAN), 0);
     IS(steps[1], 3);
     IS(reason[1], 2);
-    IS(nd110_run(STATE, MEMORY, TABLES, 10, &steps[1], &reason[1]), 0);
+    IS(references[1], 3);
+    IS(nd110_run(STATE, MEMORY, TABLES, 10, RAN), 0);
     IS(steps[1], 1);
     IS(reason[1], 0);
+    IS(references[1], 1);
     ARE(m.state, { A_0, 010 }, { P_0, 5 }, { A_2, 0321 }, { T_14, 7 }, { STOPPED, 1 }, { PID, 040000 }, { PIE, 010000 },
         { IID, 022 }, { IIE, 020 });
     ARE(m.memory, PROGRAM);
@@ -292,9 +302,10 @@ static void through(void)
 static void to_interrupt(void)
 {
     stepped();
-    IS(nd110_run_to_interrupt(STATE, MEMORY, TABLES, 10, &steps[1], &reason[1]), 0);
+    IS(nd110_run_to_interrupt(STATE, MEMORY, TABLES, 10, RAN), 0);
     IS(steps[1], 2);
     IS(reason[1], 3);
+    IS(references[1], 2);
     ARE(m.state, { A_0, 010 }, { P_0, 3 }, { A_2, 0321 }, { T_14, 7 }, { PIE, 010000 }, { IID, 02 }, { IIE, 020 });
     IS(nd110_raise(STATE, 11, MEMORY, TABLES), 0);
     ARE(m.state, { A_0, 010 }, { P_0, 3 }, { A_2, 0321 }, { T_14, 7 }, { PID, 004000 }, { PIE, 010000 }, { IID, 02 },
@@ -303,14 +314,17 @@ static void to_interrupt(void)
     IS(interrupt[1], 4);
     m.state[ION] = 1;
     m.state[PIE] = 050000;
-    IS(nd110_run_to_interrupt(STATE, MEMORY, TABLES, 10, &steps[1], &reason[1]), 0);
+    IS(nd110_run_to_interrupt(STATE, MEMORY, TABLES, 10, RAN), 0);
     IS(steps[1], 0);
     IS(reason[1], 1);
+    IS(references[1], 0);
     ARE(m.state, { A_0, 010 }, { P_0, 4 }, { A_2, 0321 }, { T_14, 7 }, { ION, 1 }, { PID, 044000 }, { PIE, 050000 },
         { IID, 022 }, { IIE, 020 });
-    IS(nd110_run(STATE, MEMORY, TABLES, 1, &steps[1], &reason[1]), 0);
+    references[1] = UNTOLD;
+    IS(nd110_run(STATE, MEMORY, TABLES, 1, RAN), 0);
     IS(steps[1], 1);
     IS(reason[1], 2);
+    IS(references[1], 0);
     ARE(m.state, { A_0, 010 }, { P_0, 4 }, { A_2, 0321 }, { T_14, 7 }, { LEVEL, 14 }, { ION, 1 }, { PID, 044000 },
         { PIE, 050000 }, { IID, 022 }, { IIE, 020 });
     ARE(m.memory, PROGRAM);
@@ -339,9 +353,10 @@ static void lent(void)
     IS(nd110_step_lent(&m.record, MEMORY, TABLES, &interrupt[1]), 0);
     IS(m.record.registers[0][ND110_A], 010);
     IS(m.record.registers[0][ND110_P], 2);
-    IS(nd110_run(RECORD, MEMORY, TABLES, 1, &steps[1], &reason[1]), 0);
+    IS(nd110_run(RECORD, MEMORY, TABLES, 1, RAN), 0);
     IS(steps[1], 1);
     IS(reason[1], 2);
+    IS(references[1], 1);
     RECORD_IS({ A_0, 010 }, { P_0, 3 }, { A_2, 0321 }, { T_14, 7 }, { PIE, 010000 }, { IID, 02 }, { IIE, 020 });
     IS(nd110_raise_lent(&m.record, 11, MEMORY, TABLES), 0);
     IS(m.record.pid, 004000);
@@ -409,17 +424,18 @@ static const uint16_t faulting[] = {
 };
 #define FAULTING faulting, WORDS(faulting)
 
-/* After each of its steps: the interrupt; P, A, PID and IID; PGS, and whether it is held. Of the first fault PGS is bit
- * 14, table 1 and page 2; of the second, which finds it held, it would be table 1 and page 3, as it is of the third. */
+/* After each of its steps: the interrupt; P, A, PID and IID; PGS, and whether it is held; the references from the start
+ * on, two for each fault. Of the first fault PGS is bit 14, table 1 and page 2; of the second, which finds it held, it
+ * would be table 1 and page 3, as it is of the third. */
 static const struct {
-    uint16_t interrupt, p, a, pid, iid, pgs, held;
+    uint16_t interrupt, p, a, pid, iid, pgs, held, references;
 } faults[] = {
-    { 3, 1, 0321, 0, 010, 0040102, 1 },
-    { 2, 2, 0321, 040000, 014, 0040102, 1 },
-    { 0, 3, 0040102, 040000, 014, 0040102, 0 },
-    { 0, 4, 0040102, 040000, 014, 0040102, 0 },
-    { 2, 5, 0040102, 040000, 014, 0000103, 1 },
-    { 0, 6, 0000103, 040000, 014, 0000103, 0 },
+    { 3, 1, 0321, 0, 010, 0040102, 1, 2 },
+    { 2, 2, 0321, 040000, 014, 0040102, 1, 4 },
+    { 0, 3, 0040102, 040000, 014, 0040102, 0, 5 },
+    { 0, 4, 0040102, 040000, 014, 0040102, 0, 6 },
+    { 2, 5, 0040102, 040000, 014, 0000103, 1, 8 },
+    { 0, 6, 0000103, 040000, 014, 0000103, 0, 9 },
 };
 
 /* The state's words after step i. */
@@ -451,23 +467,27 @@ static void held(void)
     for (size_t i = 0; i < WORDS(faults); i++) {
         fill();
         IS(nd110_load(STATE, FAULTING, MEMORY, TABLES), 0);
-        IS(nd110_run(STATE, MEMORY, TABLES, i + 1, &steps[1], &reason[1]), 0);
+        IS(nd110_run(STATE, MEMORY, TABLES, i + 1, RAN), 0);
         IS(steps[1], i + 1);
         IS(reason[1], 2);
+        IS(references[1], faults[i].references);
         ARE(m.state, FAULTED(i));
         faulted();
     }
     fill();
     IS(nd110_load(STATE, FAULTING, MEMORY, TABLES), 0);
-    IS(nd110_run_to_interrupt(STATE, MEMORY, TABLES, 10, &steps[1], &reason[1]), 0);
+    IS(nd110_run_to_interrupt(STATE, MEMORY, TABLES, 10, RAN), 0);
     IS(steps[1], 1);
     IS(reason[1], 3);
+    IS(references[1], 2);
     ARE(m.state, FAULTED(0));
     IS(nd110_raise(STATE, 11, MEMORY, TABLES), 0);
     ARE(m.state, FAULTED(0), { PID, 004000 });
-    IS(nd110_run_to_interrupt(STATE, MEMORY, TABLES, 10, &steps[1], &reason[1]), 0);
+    references[1] = UNTOLD;
+    IS(nd110_run_to_interrupt(STATE, MEMORY, TABLES, 10, RAN), 0);
     IS(steps[1], 1);
     IS(reason[1], 3);
+    IS(references[1], 2);
     ARE(m.state, FAULTED(1), { PID, 044000 });
     faulted();
 }
@@ -501,7 +521,8 @@ static void held_images(void)
     static const uint16_t old[6 + 26] = { 1, 3, 0, 0, 0, 26, [6 + 9] = 0040102 };
     fill();
     IS(nd110_load(RECORD, FAULTING, MEMORY, TABLES), 0);
-    IS(nd110_run(RECORD, MEMORY, TABLES, 2, &steps[1], &reason[1]), 0);
+    IS(nd110_run(RECORD, MEMORY, TABLES, 2, RAN), 0);
+    IS(references[1], 4);
     IS(nd110_write(RECORD, MEMORY, TABLES, m.out, IMAGE_WORDS), 0);
     IS(m.out[26 + 2048 + 128 + 9], 0040102);
     IS(m.out[26 + 2048 + 128 + 26], 1);
@@ -603,12 +624,13 @@ static void refused(void)
     memcpy(&m.record, m.state, sizeof m.record);
     interrupt[1] = reason[1] = character[1] = 077;
     steps[1] = handed[1] = 0777;
+    references[1] = UNTOLD - 1;
     was = m;
     for (size_t i = 0; i < WORDS(states); i++) {
         size_t len = states[i];
         IS(nd110_step(m.state, len, MEMORY, TABLES, &interrupt[1]), 255);
-        IS(nd110_run(m.state, len, MEMORY, TABLES, 10, &steps[1], &reason[1]), 255);
-        IS(nd110_run_to_interrupt(m.state, len, MEMORY, TABLES, 10, &steps[1], &reason[1]), 255);
+        IS(nd110_run(m.state, len, MEMORY, TABLES, 10, RAN), 255);
+        IS(nd110_run_to_interrupt(m.state, len, MEMORY, TABLES, 10, RAN), 255);
         IS(nd110_raise(m.state, len, 10, MEMORY, TABLES), 255);
         IS(nd110_load(m.state, len, IMAGE, MEMORY, TABLES), 255);
         IS(nd110_write(m.state, len, MEMORY, TABLES, OUT), 255);
@@ -629,8 +651,8 @@ static void refused(void)
         IS(nd110_step(STATE, m.memory, len, TABLES, &interrupt[1]), 1);
         IS(nd110_step_lent(&m.record, m.memory, len, TABLES, &interrupt[1]), 1);
         IS(nd110_raise_lent(&m.record, 10, m.memory, len, TABLES), 1);
-        IS(nd110_run(STATE, m.memory, len, TABLES, 10, &steps[1], &reason[1]), 1);
-        IS(nd110_run_to_interrupt(STATE, m.memory, len, TABLES, 10, &steps[1], &reason[1]), 1);
+        IS(nd110_run(STATE, m.memory, len, TABLES, 10, RAN), 1);
+        IS(nd110_run_to_interrupt(STATE, m.memory, len, TABLES, 10, RAN), 1);
         IS(nd110_raise(STATE, 10, m.memory, len, TABLES), 1);
         IS(nd110_load(STATE, IMAGE, m.memory, len, TABLES), 1);
         IS(nd110_write(STATE, m.memory, len, TABLES, OUT), 1);
@@ -646,8 +668,8 @@ static void refused(void)
         IS(nd110_step(STATE, MEMORY, m.tables, len, &interrupt[1]), 1);
         IS(nd110_step_lent(&m.record, MEMORY, m.tables, len, &interrupt[1]), 1);
         IS(nd110_raise_lent(&m.record, 10, MEMORY, m.tables, len), 1);
-        IS(nd110_run(STATE, MEMORY, m.tables, len, 10, &steps[1], &reason[1]), 1);
-        IS(nd110_run_to_interrupt(STATE, MEMORY, m.tables, len, 10, &steps[1], &reason[1]), 1);
+        IS(nd110_run(STATE, MEMORY, m.tables, len, 10, RAN), 1);
+        IS(nd110_run_to_interrupt(STATE, MEMORY, m.tables, len, 10, RAN), 1);
         IS(nd110_raise(STATE, 10, MEMORY, m.tables, len), 1);
         IS(nd110_load(STATE, IMAGE, MEMORY, m.tables, len), 1);
         IS(nd110_write(STATE, MEMORY, m.tables, len, OUT), 1);
@@ -695,8 +717,8 @@ static void refused(void)
     IS(nd110_step_lent(&m.record, MEMORY, TABLES, &interrupt[1]), 2);
     IS(nd110_raise_lent(&m.record, 9, MEMORY, TABLES), 2);
     IS(nd110_step(STATE, MEMORY, TABLES, &interrupt[1]), 2);
-    IS(nd110_run(STATE, MEMORY, TABLES, 10, &steps[1], &reason[1]), 2);
-    IS(nd110_run_to_interrupt(STATE, MEMORY, TABLES, 10, &steps[1], &reason[1]), 2);
+    IS(nd110_run(STATE, MEMORY, TABLES, 10, RAN), 2);
+    IS(nd110_run_to_interrupt(STATE, MEMORY, TABLES, 10, RAN), 2);
     IS(nd110_raise(STATE, 10, MEMORY, TABLES), 2);
     IS(nd110_write(STATE, MEMORY, TABLES, OUT), 2);
     IS(nd110_tick(STATE, MEMORY, TABLES), 2);
@@ -711,6 +733,7 @@ static void refused(void)
     IS(told[1], 077);
     IS(steps[1], 0777);
     IS(handed[1], 0777);
+    IS(references[1], UNTOLD - 1);
     guards();
 }
 
@@ -743,12 +766,13 @@ static void refused_words(void)
         memcpy(&m.record, m.state, sizeof m.record);
         interrupt[1] = reason[1] = character[1] = 077;
         steps[1] = handed[1] = 0777;
+        references[1] = UNTOLD - 1;
         was = m;
         IS(nd110_step(STATE, MEMORY, TABLES, &interrupt[1]), 2);
         IS(nd110_step_lent(&m.record, MEMORY, TABLES, &interrupt[1]), 2);
-        IS(nd110_run(STATE, MEMORY, TABLES, 10, &steps[1], &reason[1]), 2);
-        IS(nd110_run(RECORD, MEMORY, TABLES, 10, &steps[1], &reason[1]), 2);
-        IS(nd110_run_to_interrupt(STATE, MEMORY, TABLES, 10, &steps[1], &reason[1]), 2);
+        IS(nd110_run(STATE, MEMORY, TABLES, 10, RAN), 2);
+        IS(nd110_run(RECORD, MEMORY, TABLES, 10, RAN), 2);
+        IS(nd110_run_to_interrupt(STATE, MEMORY, TABLES, 10, RAN), 2);
         IS(nd110_raise(STATE, 10, MEMORY, TABLES), 2);
         IS(nd110_raise_lent(&m.record, 10, MEMORY, TABLES), 2);
         IS(nd110_write(STATE, MEMORY, TABLES, OUT), 2);
@@ -764,6 +788,7 @@ static void refused_words(void)
         IS(told[0], 077);
         IS(steps[1], 0777);
         IS(handed[1], 0777);
+        IS(references[1], UNTOLD - 1);
         guards();
         m.state[at] = most;
         memcpy(&m.record, m.state, sizeof m.record);
@@ -975,9 +1000,9 @@ static const uint16_t echo[] = { 1, 1, 0, 0, 0, 6, 0164302, 0175235, 0124376, 01
 #define ECHO                                                                                         \
     { 0, 0164302 }, { 1, 0175235 }, { 2, 0124376 }, { 3, 0164300 }, { 4, 0164305 }, { 5, 0124373 }
 
-/* Twelve steps of it. The loop of three is left with the third reading of the status, step 7; step 9 reads the
- * character, 10 sends it, 11 jumps back. The fifth input's step is passed: it is handed in after the one before it. The
- * last two are not handed in: one is for step 13, the other is behind it. */
+/* Twelve steps of it, each of one reference, its fetch. The loop of three is left with the third reading of the status,
+ * step 7; step 9 reads the character, 10 sends it, 11 jumps back. The fifth input's step is passed: it is handed in
+ * after the one before it. The last two are not handed in: one is for step 13, the other is behind it. */
 static void inputs(void)
 {
     static const uint64_t at[] = { 0, 0, 4, 4, 2, 4, 4, 4, 4, 4, 10, 10, 12, 13, 5 };
@@ -994,6 +1019,7 @@ static void inputs(void)
     IS(handed[1], 13);
     IS(steps[1], 12);
     IS(reason[1], 2);
+    IS(references[1], 12);
     IS(memcmp(told, telling, sizeof told), 0);
     ARE(m.state, { P_0, 1 }, { PID, 004000 }, { 157, 1 }, { 160, 1 }, { 162, 0377 }, { 167, 0101 });
     ARE(m.memory, ECHO);
@@ -1005,12 +1031,14 @@ static void inputs(void)
     IS(handed[1], 0);
     IS(steps[1], 7);
     IS(reason[1], 2);
+    IS(references[1], 7);
     RECORD_IS({ P_0, 1 });
     guards();
 }
 
 /* Why a run with input ends, and which inputs it has taken then. Each list has a tick or a raise of level 11, then a
- * tick for the same step. The machine executes WAIT, a word that is no instruction, or SAA 5; PIE has level 11. */
+ * tick for the same step. The machine executes WAIT, a word that is no instruction, or SAA 5, one reference each; PIE
+ * has level 11. */
 static void ended(void)
 {
     static const struct {
@@ -1039,6 +1067,7 @@ static void ended(void)
         IS(handed[1], ends[i].handed);
         IS(steps[1], ends[i].steps);
         IS(reason[1], ends[i].reason);
+        IS(references[1], ends[i].steps);
         IS(told[0], GUARD);
         IS(told[1], ends[i].handed > 0 ? 0 : GUARD);
         IS(told[2], ends[i].handed > 1 ? 0 : GUARD);
@@ -1046,6 +1075,91 @@ static void ended(void)
         ARE(m.state, { A_0, ends[i].a }, { P_0, ends[i].p }, { ION, ends[i].on }, { PID, ends[i].pid }, { PIE, 004000 },
             { IID, ends[i].iid }, { STOPPED, ends[i].reason == 0 }, { 157, ends[i].ready });
         guards();
+    }
+}
+
+/* One step's memory references. A row has the word, which is at 0, the interrupt that it gives and its references, then
+ * P, B, D and X. T is 0300, and 01000 is at 0100, an indirect word for some. Memory has 2,048 words: 03777 is its
+ * last. */
+static const struct {
+    uint16_t word, interrupt, references, p, b, d, x;
+} made[] = {
+    { 0170405, 0, 1, 0, 0, 0, 0 },             /* SAA 5: the fetch */
+    { 0044400, 0, 2, 0, 0100, 0, 0 },          /* LDA 0,B: and the operand */
+    { 0045400, 0, 3, 0, 0100, 0, 0 },          /* LDA I 0,B: and the indirect word */
+    { 0004400, 0, 2, 0, 0100, 0, 0 },          /* STA 0,B */
+    { 0060400, 0, 2, 0, 0100, 0, 0 },          /* ADD 0,B */
+    { 0024400, 0, 3, 0, 0100, 0, 0 },          /* LDD 0,B: two words */
+    { 0034400, 0, 4, 0, 0100, 0, 0 },          /* LDF 0,B: three */
+    { 0031400, 0, 5, 0, 0100, 0, 0 },          /* STF I 0,B: three and the indirect word */
+    { 0040400, 0, 3, 0, 0100, 0, 0 },          /* MIN 0,B: its word read and written */
+    { 0041400, 0, 4, 0, 0100, 0, 0 },          /* MIN I 0,B */
+    { 0124400, 0, 1, 0, 0100, 0, 0 },          /* JMP 0,B: none at the target */
+    { 0125400, 0, 2, 0, 0100, 0, 0 },          /* JMP I 0,B */
+    { 0135400, 0, 2, 0, 0100, 0, 0 },          /* JPL I 0,B */
+    { 0142200, 0, 2, 0, 0, 0, 5 },             /* LBYT */
+    { 0142600, 0, 3, 0, 0, 0, 5 },             /* SBYT: its word read and written */
+    { 0140610, 0, 2, 0, 0100, 0044400, 0 },    /* EXR of LDA 0,B: its word comes from D */
+    { 0140610, 0, 5, 0, 0100, 0031400, 0 },    /* EXR of STF I 0,B */
+    { 0140610, 4, 1, 0, 0, 0140610, 0 },       /* EXR of EXR */
+    { 0150416, 0, 2, 0, 0, 0400, 0 },          /* EXAM */
+    { 0150417, 0, 2, 0, 0, 0400, 0 },          /* DEPO */
+    { 0150416, 9, 2, 0, 0, 04000, 0 },         /* EXAM past the memory */
+    { 0150417, 9, 2, 0, 0, 04000, 0 },         /* DEPO past the memory */
+    { 0152412, 0, 9, 0, 0, 0, 0200 },          /* SRB of level 1 */
+    { 0152402, 0, 9, 0, 0, 0, 0200 },          /* SRB of the running level */
+    { 0152610, 0, 9, 0, 0, 0, 0200 },          /* LRB of level 1 */
+    { 0152600, 0, 9, 0, 0, 0, 0200 },          /* LRB of the running level, though P stays */
+    { 0153007, 1, 1, 0, 0, 0, 0 },             /* MON 7 */
+    { 0160000, 4, 1, 0, 0, 0, 0 },             /* no instruction */
+    { 0164306, 0, 1, 0, 0, 0, 0 },             /* IOX 306: a device's register is none */
+    { 0164007, 7, 1, 0, 0, 0, 0 },             /* IOX 7 */
+    { 0150415, 0, 1, 0, 0, 0, 0 },             /* IOXT of 300 */
+    { 0143604, 7, 1, 0, 0, 0, 0 },             /* IDENT PL10 */
+    { 0150001, 0, 1, 0, 0, 0, 0 },             /* TRA STS */
+    { 0151000, 0, 1, 0, 0, 0, 0 },             /* WAIT */
+    { 0004400, 0, 2, 0, 0177400, 0, 0 },       /* STA 0,B to a page table word */
+    { 0022000, 9, 3, 0, 0, 0, 03777 },         /* STD 0,X whose second word fails */
+    { 0022000, 9, 2, 0, 0, 0, 04000 },         /* STD 0,X whose first word fails */
+    { 0152412, 9, 4, 0, 0, 0, 03776 },         /* SRB whose third word fails */
+    { 0045400, 9, 2, 0, 04000, 0, 0 },         /* LDA I 0,B whose indirect word fails */
+    { 0170405, 9, 1, 04000, 0, 0, 0 },         /* a fetch that fails */
+};
+
+/* A run in one of its three forms. */
+static unsigned run_by(int form, uint64_t n)
+{
+    if (form == 0)
+        return nd110_run(STATE, MEMORY, TABLES, n, RAN);
+    if (form == 1)
+        return nd110_run_to_interrupt(STATE, MEMORY, TABLES, n, RAN);
+    return nd110_run_with_input(STATE, MEMORY, TABLES, n, NO_INPUT, TOLD);
+}
+
+/* Each row by every form: first no step, which makes none, then one. */
+static void references_made(void)
+{
+    for (size_t i = 0; i < WORDS(made); i++) {
+        for (int form = 0; form < 3; form++) {
+            fill();
+            IS(nd110_load(STATE, cleared, WORDS(cleared), MEMORY, TABLES), 0);
+            m.state[P_0] = made[i].p;
+            m.state[B_0] = made[i].b;
+            m.state[D_0] = made[i].d;
+            m.state[T_0] = 0300;
+            m.state[X_0] = made[i].x;
+            m.memory[0] = made[i].word;
+            m.memory[0100] = 01000;
+            IS(run_by(form, 0), 0);
+            IS(steps[1], 0);
+            IS(references[1], 0);
+            references[1] = UNTOLD;
+            IS(run_by(form, 1), 0);
+            IS(steps[1], 1);
+            IS(references[1], made[i].references);
+            IS(m.state[IID], made[i].interrupt ? 1u << made[i].interrupt : 0);
+            guards();
+        }
     }
 }
 
@@ -1092,15 +1206,17 @@ static void status(void)
     IS(nd110_load(STATE, modes, WORDS(modes), MEMORY, TABLES), 0);
     IS(nd110_step(STATE, MEMORY, TABLES, &interrupt[1]), 0);
     ARE(m.state, { P_0, 1 }, { EXTENDED, 1 });
-    IS(nd110_run(STATE, MEMORY, TABLES, 1, &steps[1], &reason[1]), 0);
+    IS(nd110_run(STATE, MEMORY, TABLES, 1, RAN), 0);
+    IS(references[1], 1);
     ARE(m.state, { P_0, 2 }, { A_0, 030000 }, { EXTENDED, 1 });
     memcpy(&m.record, m.state, sizeof m.record);
     IS(nd110_step_lent(&m.record, MEMORY, TABLES, &interrupt[1]), 0);
     IS(m.record.extended, 0);
     RECORD_IS({ P_0, 3 }, { A_0, 030000 });
-    IS(nd110_run_to_interrupt(RECORD, MEMORY, TABLES, 10, &steps[1], &reason[1]), 0);
+    IS(nd110_run_to_interrupt(RECORD, MEMORY, TABLES, 10, RAN), 0);
     IS(steps[1], 2);
     IS(reason[1], 0);
+    IS(references[1], 2);
     RECORD_IS({ P_0, 5 }, { A_0, 010000 }, { STOPPED, 1 });
     ARE(m.tables, { 0, 0 });
     guards();
@@ -1132,16 +1248,16 @@ static const uint16_t switching[] = {
 #define SWITCHING switching, WORDS(switching)
 
 /* After each of its steps: the interrupt; P and A; stopped; IID; PGS, whether it is held, and the mode; the table words
- * 128, 256 and 260. PGS has the slot of page 3, 131, as it is. */
+ * 128, 256 and 260; the references from the start on. PGS has the slot of page 3, 131, as it is. */
 static const struct {
-    uint16_t interrupt, p, a, stopped, iid, pgs, held, extended, short_128, first_128, first_130;
+    uint16_t interrupt, p, a, stopped, iid, pgs, held, extended, short_128, first_128, first_130, references;
 } switched[] = {
-    { 0, 1, 0, 0, 0, 0, 0, 1, 0166000, 0162777, 0042000 },
-    { 0, 2, 0321, 0, 0, 0, 0, 1, 0166000, 0166777, 0046000 },
-    { 2, 3, 0321, 0, 04, 0040203, 1, 1, 0166000, 0166777, 0046000 },
-    { 0, 4, 0040203, 0, 04, 0040203, 0, 1, 0166000, 0166777, 0046000 },
-    { 0, 5, 0040203, 0, 04, 0040203, 0, 0, 0166000, 0166777, 0046000 },
-    { 0, 6, 0040203, 1, 04, 0040203, 0, 0, 0166000, 0166777, 0046000 },
+    { 0, 1, 0, 0, 0, 0, 0, 1, 0166000, 0162777, 0042000, 1 },
+    { 0, 2, 0321, 0, 0, 0, 0, 1, 0166000, 0166777, 0046000, 3 },
+    { 2, 3, 0321, 0, 04, 0040203, 1, 1, 0166000, 0166777, 0046000, 5 },
+    { 0, 4, 0040203, 0, 04, 0040203, 0, 1, 0166000, 0166777, 0046000, 6 },
+    { 0, 5, 0040203, 0, 04, 0040203, 0, 0, 0166000, 0166777, 0046000, 7 },
+    { 0, 6, 0040203, 1, 04, 0040203, 0, 0, 0166000, 0166777, 0046000, 8 },
 };
 #define SWITCHED(i)                                                                                  \
     { P_0, switched[i].p }, { B_0, 0004001 }, { A_0, switched[i].a }, { X_0, 0006000 },              \
@@ -1172,17 +1288,19 @@ static void long_entries(void)
     for (size_t i = 0; i < WORDS(switched); i++) {
         fill();
         IS(nd110_load(STATE, SWITCHING, MEMORY, TABLES), 0);
-        IS(nd110_run(STATE, MEMORY, TABLES, i + 1, &steps[1], &reason[1]), 0);
+        IS(nd110_run(STATE, MEMORY, TABLES, i + 1, RAN), 0);
         IS(steps[1], i + 1);
         IS(reason[1], i == 5 ? 0 : 2);
+        IS(references[1], switched[i].references);
         ARE(m.state, SWITCHED(i));
         switched_rest(i);
     }
     fill();
     IS(nd110_load(STATE, SWITCHING, MEMORY, TABLES), 0);
-    IS(nd110_run_to_interrupt(STATE, MEMORY, TABLES, 10, &steps[1], &reason[1]), 0);
+    IS(nd110_run_to_interrupt(STATE, MEMORY, TABLES, 10, RAN), 0);
     IS(steps[1], 3);
     IS(reason[1], 3);
+    IS(references[1], 5);
     ARE(m.state, SWITCHED(2));
     switched_rest(2);
     fill();
@@ -1213,20 +1331,21 @@ static const uint16_t by_t_and_x[] = {
 };
 
 /* After each of its steps: the interrupt; D, P, B and A; whether X is still the first; stopped and IID; the table words
- * 0, 1 and 6. LDBTX gives twice 012345, 024712, with bits 15 to 9 set. */
+ * 0, 1 and 6; the references of the step, of the first the fetch and the first of its two words. LDBTX gives twice
+ * 012345, 024712, with bits 15 to 9 set. */
 static const struct {
-    uint16_t interrupt, d, p, b, a, first_x, stopped, iid, t0, t1, t6;
+    uint16_t interrupt, d, p, b, a, first_x, stopped, iid, t0, t1, t6, references;
 } reached[] = {
-    { 9, 0012345, 1, 0, 0054321, 1, 0, 01000, 0, 0, 0 },
-    { 0, 0012345, 2, 0, 0054321, 1, 0, 01000, 0054321, 0012345, 0 },
-    { 0, 0111111, 3, 0, 0012345, 1, 0, 01000, 0054321, 0012345, 0 },
-    { 0, 0111111, 4, 0, 0012345, 1, 0, 01000, 0, 0012345, 0 },
-    { 0, 0111111, 5, 0177712, 0012345, 1, 0, 01000, 0, 0012345, 0 },
-    { 0, 0111111, 6, 0177712, 0012345, 1, 0, 01000, 0, 0012345, 0012345 },
-    { 0, 0111111, 7, 0177712, 0012345, 0, 0, 01000, 0, 0012345, 0012345 },
-    { 0, 0111111, 8, 0177712, 0143374, 0, 0, 01000, 0, 0012345, 0012345 },
-    { 4, 0111111, 9, 0177712, 0143374, 0, 0, 01020, 0, 0012345, 0012345 },
-    { 0, 0111111, 10, 0177712, 0143374, 0, 1, 01020, 0, 0012345, 0012345 },
+    { 9, 0012345, 1, 0, 0054321, 1, 0, 01000, 0, 0, 0, 2 },
+    { 0, 0012345, 2, 0, 0054321, 1, 0, 01000, 0054321, 0012345, 0, 3 },
+    { 0, 0111111, 3, 0, 0012345, 1, 0, 01000, 0054321, 0012345, 0, 3 },
+    { 0, 0111111, 4, 0, 0012345, 1, 0, 01000, 0, 0012345, 0, 2 },
+    { 0, 0111111, 5, 0177712, 0012345, 1, 0, 01000, 0, 0012345, 0, 2 },
+    { 0, 0111111, 6, 0177712, 0012345, 1, 0, 01000, 0, 0012345, 0012345, 2 },
+    { 0, 0111111, 7, 0177712, 0012345, 0, 0, 01000, 0, 0012345, 0012345, 2 },
+    { 0, 0111111, 8, 0177712, 0143374, 0, 0, 01000, 0, 0012345, 0012345, 2 },
+    { 4, 0111111, 9, 0177712, 0143374, 0, 0, 01020, 0, 0012345, 0012345, 1 },
+    { 0, 0111111, 10, 0177712, 0143374, 0, 1, 01020, 0, 0012345, 0012345, 1 },
 };
 
 static void reached_rest(size_t i)
@@ -1237,7 +1356,7 @@ static void reached_rest(size_t i)
     guards();
 }
 
-/* By words and by lent steps, in both modes. */
+/* By words and by lent steps, in both modes; then by runs of one step, and by one of all of them, 20 references. */
 static void physical(void)
 {
     for (uint16_t mode = 0; mode < 2; mode++) {
@@ -1265,6 +1384,22 @@ static void physical(void)
             reached_rest(i);
         }
         IS(memcmp(&m.record, m.state, sizeof m.record), 0);
+        for (int whole = 0; whole < 2; whole++) {
+            IS(nd110_load(STATE, by_t_and_x, WORDS(by_t_and_x), MEMORY, TABLES), 0);
+            m.state[X_0] = x;
+            m.state[EXTENDED] = mode;
+            for (size_t i = 0; i < WORDS(reached) && !whole; i++) {
+                IS(nd110_run(STATE, MEMORY, TABLES, 1, RAN), 0);
+                IS(references[1], reached[i].references);
+                reached_rest(i);
+            }
+            if (whole) {
+                IS(nd110_run(STATE, MEMORY, TABLES, 100, RAN), 0);
+                IS(steps[1], 10);
+                IS(references[1], 20);
+            }
+            IS(memcmp(&m.record, m.state, sizeof m.record), 0);
+        }
     }
 }
 
@@ -1278,7 +1413,8 @@ static void extended_images(void)
     } loads[] = { { 3, 26, 0 }, { 3, 27, 0 }, { 3, 28, 0 }, { 3, 29, 6 }, { 4, 256, 0 }, { 4, 512, 0 }, { 4, 513, 6 } };
     fill();
     IS(nd110_load(RECORD, SWITCHING, MEMORY, TABLES), 0);
-    IS(nd110_run(RECORD, MEMORY, TABLES, 3, &steps[1], &reason[1]), 0);
+    IS(nd110_run(RECORD, MEMORY, TABLES, 3, RAN), 0);
+    IS(references[1], 5);
     IS(nd110_write(RECORD, MEMORY, TABLES, m.out, IMAGE_WORDS), 0);
     IS(m.out[26 + 2048 + 128 + 27], 1);
     IS(m.out[26 + 2048 + 128 + 28 + 263], 0100001);
@@ -1342,8 +1478,8 @@ static void refused_sizes(uint16_t *memory, uint16_t *out)
         size_t len = wrong[i];
         IS(nd110_step(STATE, memory, len, TABLES, &interrupt[1]), 1);
         IS(nd110_step_lent(&m.record, memory, len, TABLES, &interrupt[1]), 1);
-        IS(nd110_run(STATE, memory, len, TABLES, 10, &steps[1], &reason[1]), 1);
-        IS(nd110_run_to_interrupt(STATE, memory, len, TABLES, 10, &steps[1], &reason[1]), 1);
+        IS(nd110_run(STATE, memory, len, TABLES, 10, RAN), 1);
+        IS(nd110_run_to_interrupt(STATE, memory, len, TABLES, 10, RAN), 1);
         IS(nd110_raise(STATE, 10, memory, len, TABLES), 1);
         IS(nd110_raise_lent(&m.record, 10, memory, len, TABLES), 1);
         IS(nd110_load(STATE, LARGEST_IMAGE, memory, len, TABLES), 1);
@@ -1368,11 +1504,13 @@ static void largest_steps(uint16_t *memory)
     IS(m.record.registers[0][ND110_A], 0123321);
     IS(nd110_step(RECORD, memory, LARGEST, TABLES, &interrupt[1]), 0);
     IS(m.record.registers[0][ND110_A], 5);
-    IS(nd110_run(RECORD, memory, LARGEST, TABLES, 1, &steps[1], &reason[1]), 0);
+    IS(nd110_run(RECORD, memory, LARGEST, TABLES, 1, RAN), 0);
+    IS(references[1], 2);
     IS(memory[LARGEST - 2], 5);
-    IS(nd110_run_to_interrupt(RECORD, memory, LARGEST, TABLES, 10, &steps[1], &reason[1]), 0);
+    IS(nd110_run_to_interrupt(RECORD, memory, LARGEST, TABLES, 10, RAN), 0);
     IS(steps[1], 2);
     IS(reason[1], 3);
+    IS(references[1], 5);
     RECORD_IS({ D_0, 0123321 }, { P_0, 5 }, { B_0, 03777 }, { A_0, 5 }, { T_0, 0377 }, { X_0, 0177776 }, { PAGING, 1 },
               { IID, 01000 }, { PCR_0, 2 }, { EXTENDED, 1 });
     ARE(m.tables, { 0, 0166000 }, { 2, 0166000 }, { 3, 037777 });
@@ -1396,9 +1534,11 @@ static void largest_steps(uint16_t *memory)
     IS(character[1], 256);
     IS(nd110_run_with_input(RECORD, memory, LARGEST, TABLES, 0, NO_INPUT, TOLD), 0);
     IS(reason[1], 2);
-    IS(nd110_run(RECORD, memory, LARGEST, TABLES, 10, &steps[1], &reason[1]), 0);
+    IS(references[1], 0);
+    IS(nd110_run(RECORD, memory, LARGEST, TABLES, 10, RAN), 0);
     IS(steps[1], 1);
     IS(reason[1], 0);
+    IS(references[1], 1);
     IS(memory[LARGEST - 1], 0123321);
 }
 
@@ -1589,6 +1729,7 @@ int main(void)
     idents();
     inputs();
     ended();
+    references_made();
     device_images();
     status();
     long_entries();

@@ -23,11 +23,13 @@ const REPETITIONS: usize = 5;
 /// A repetition is so many slices of each engine, in turn, so that what disturbs the machine disturbs both.
 const SLICES: u64 = 10;
 
-/// What is left: the state's words in image order, memory, tables; and the seconds that it took.
+/// What is left: the state's words in image order, memory, tables; the references of a run, 0 of all else; and the
+/// seconds that it took.
 struct Left {
     words: [u16; nd110::STATE_WORDS],
     memory: Vec<u16>,
     tables: Vec<u16>,
+    references: u64,
     seconds: f64,
 }
 
@@ -45,11 +47,13 @@ fn ours(image: Image, pages: usize, n: u64, by: By) -> Left {
         mut memory,
         mut tables,
     } = machine(image, pages);
+    let mut references = 0;
     let began = Instant::now();
     match by {
         By::Run => {
-            let ran = nd110::run(&mut state, &mut memory, &mut tables, n);
-            assert_eq!(ran, Ok((n, nd110::Reason::Spent)));
+            let ran = nd110::run(&mut state, &mut memory, &mut tables, n).expect("no refusal");
+            assert_eq!((ran.steps, ran.reason), (n, nd110::Reason::Spent));
+            references = ran.references;
         }
         By::Calls => {
             for _ in 0..n {
@@ -67,6 +71,7 @@ fn ours(image: Image, pages: usize, n: u64, by: By) -> Left {
         words: state.0,
         memory,
         tables,
+        references,
         seconds,
     }
 }
@@ -75,11 +80,14 @@ fn rust(image: Image, pages: usize, n: u64, by: By) -> Left {
     let start = machine(image, pages);
     let mut state = State::from_words(&start.state.0);
     let (mut memory, mut tables) = (start.memory, start.tables);
+    let mut references = 0;
     let began = Instant::now();
     match by {
         By::Run => {
             let ran = second::run(&mut state, &mut memory, &mut tables, n, false);
-            assert_eq!(ran, Ok((n, second::Reason::Spent)));
+            let ran = ran.expect("no refusal");
+            assert_eq!((ran.steps, ran.reason), (n, second::Reason::Spent));
+            references = ran.references;
         }
         By::Calls | By::Lent => {
             for _ in 0..n {
@@ -92,6 +100,7 @@ fn rust(image: Image, pages: usize, n: u64, by: By) -> Left {
         words: state.to_words(),
         memory,
         tables,
+        references,
         seconds,
     }
 }
@@ -114,6 +123,7 @@ fn our_images(pages: usize, n: u64) -> Left {
         words: state.0,
         memory,
         tables,
+        references: 0,
         seconds,
     }
 }
@@ -133,6 +143,7 @@ fn rust_images(pages: usize, n: u64) -> Left {
         words: state.to_words(),
         memory,
         tables,
+        references: 0,
         seconds,
     }
 }
@@ -141,6 +152,7 @@ fn same(a: &Left, b: &Left) {
     assert!(a.words == b.words, "registers, control words and devices");
     assert!(a.memory == b.memory, "memory");
     assert!(a.tables == b.tables, "tables");
+    assert_eq!(a.references, b.references, "references");
     assert_eq!(a.words[135], 0, "the image gives no interrupt");
 }
 

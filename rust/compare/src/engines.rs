@@ -15,11 +15,29 @@ pub struct Both {
 /// What the two answered, as text.
 pub type Answers = (String, String);
 
+/// What a run of either answered: the reason by the library's number; what inputs were told, none of a run without.
+#[derive(Debug, PartialEq)]
+struct Run {
+    steps: u64,
+    reason: u16,
+    references: u64,
+    told: Vec<ToldWith>,
+}
+
 fn same(ours: String, theirs: String) -> Result<(), Answers> {
     if ours == theirs {
         Ok(())
     } else {
         Err((ours, theirs))
+    }
+}
+
+/// The steps taken, or none where both refuse with one number.
+fn same_run(ours: Result<Run, u16>, theirs: Result<Run, u16>) -> Result<u64, Answers> {
+    if ours == theirs {
+        Ok(ours.map_or(0, |run| run.steps))
+    } else {
+        Err((format!("{ours:?}"), format!("{theirs:?}")))
     }
 }
 
@@ -92,7 +110,8 @@ impl Both {
         Err((format!("{ours:?}"), format!("{theirs:?}")))
     }
 
-    /// A run of both, through or to the first interrupt: the steps taken, or none where both refuse.
+    /// A run of both, through or to the first interrupt: the steps taken, or none where both refuse. Steps, reason and
+    /// references must be the same.
     pub fn run(&mut self, steps: u64, first: bool) -> Result<u64, Answers> {
         let run = if first {
             nd110::run_to_interrupt
@@ -113,14 +132,19 @@ impl Both {
             steps,
             first,
         );
-        let ours = ours
-            .map(|(n, why)| (n, why.number()))
-            .map_err(|r| r.number());
-        let theirs = theirs
-            .map(|(n, why)| (n, reason(why)))
-            .map_err(|r| r.number());
-        same(format!("{ours:?}"), format!("{theirs:?}"))?;
-        Ok(ours.map_or(0, |(n, _)| n))
+        let ours = ours.map(|ran| Run {
+            steps: ran.steps,
+            reason: ran.reason.number(),
+            references: ran.references,
+            told: Vec::new(),
+        });
+        let theirs = theirs.map(|ran| Run {
+            steps: ran.steps,
+            reason: reason(ran.reason),
+            references: ran.references,
+            told: Vec::new(),
+        });
+        same_run(ours.map_err(|r| r.number()), theirs.map_err(|r| r.number()))
     }
 
     /// A raise of both.
@@ -193,20 +217,19 @@ impl Both {
             steps,
             inputs,
         );
-        let ours = ours
-            .map(|ran| {
-                let told: Vec<_> = ran.told.into_iter().map(our_told).collect();
-                (ran.steps, ran.reason.number(), told)
-            })
-            .map_err(|r| r.number());
-        let theirs = theirs
-            .map(|ran| {
-                let told: Vec<_> = ran.told.into_iter().map(their_told).collect();
-                (ran.steps, reason(ran.reason), told)
-            })
-            .map_err(|r| r.number());
-        same(format!("{ours:?}"), format!("{theirs:?}"))?;
-        Ok(ours.map_or(0, |(n, _, _)| n))
+        let ours = ours.map(|ran| Run {
+            steps: ran.steps,
+            reason: ran.reason.number(),
+            references: ran.references,
+            told: ran.told.into_iter().map(our_told).collect(),
+        });
+        let theirs = theirs.map(|ran| Run {
+            steps: ran.steps,
+            reason: reason(ran.reason),
+            references: ran.references,
+            told: ran.told.into_iter().map(their_told).collect(),
+        });
+        same_run(ours.map_err(|r| r.number()), theirs.map_err(|r| r.number()))
     }
 
     /// The image that each writes; Ok only if they are one.

@@ -16,15 +16,18 @@ const USAGE: &str = "\
 usage: compare SEED STEPS
 
 Follows the proved engine and the second engine on random machines and programs, half of them step
-by step and half in runs of some steps each, with and without device input, and compares answers and
-whole states after every step, run and device input between them. Every second program that is
-followed step by step is so by lent steps and raises. The same seed gives the same machines. The last
-line is 'N steps compared, M differences'.";
+by step and half in runs of some steps each, with and without device input, and compares answers,
+references of a run included, and whole states after every step, run and device input between them.
+Every second program that is followed step by step is so by lent steps and raises; of every eighth
+step the references are compared too, by a run of one step on a copy. The same seed gives the same
+machines. The last line is 'N steps compared, M differences'.";
 
 /// Steps that a program is followed.
 const LENGTH: u64 = 64;
 /// Most steps of one run of a program that is followed in runs.
 const RUN: u64 = 24;
+/// Of the single steps one in so many is taken by a run too, on a copy, since a step tells no references.
+const SHARE: u64 = 8;
 /// Words of the list of contents that the writer makes: the number of entries, and five of five words.
 const CONTENTS: u64 = 1 + 5 * 5;
 
@@ -101,6 +104,13 @@ impl Tally {
         while left > 0 {
             let before = both.theirs.clone();
             let taken = next(random, by, left);
+            if by != By::Runs && self.steps.is_multiple_of(SHARE) {
+                let one = Taken::Run(1);
+                if report::differs(&before, &one) {
+                    self.differ("references of a step", || report::print(&before, &one));
+                    return;
+                }
+            }
             let answers = taken.by(&mut both);
             let steps = *answers.as_ref().unwrap_or(&1);
             self.steps += steps;

@@ -1,4 +1,5 @@
-//! The first difference: as small an image as still shows it, the instruction, and the words that differ.
+//! The first difference: as small an image as still shows it, the instruction, and the answers or words that differ; of
+//! a run the answer has its references.
 
 use compare::engines::{Answers, Both};
 use second::vectors::Start;

@@ -127,7 +127,7 @@ impl Session {
 
     /// So many steps, and the character that they sent, if they did, written at once.
     fn slice(&mut self) -> Result<Slice, cli::Trouble> {
-        let (_, reason) = self.machine.run(SLICE)?;
+        let reason = self.machine.run(SLICE)?.reason;
         let sent = self.machine.read_out()?;
         if let Some(character) = sent {
             let mut out = io::stdout().lock();

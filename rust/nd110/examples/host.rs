@@ -32,11 +32,12 @@ fn raise(machine: &mut Machine, level: u16) {
     println!("raise of {level}: answer {number}, PID {pid:06o}");
 }
 
-/// At most so many steps.
+/// At most so many steps, and the memory references that they made.
 fn run(machine: &mut Machine, steps: u64) -> Result<(), Refusal> {
-    let (taken, reason) = machine.run(steps)?;
-    let (number, p) = (reason.number(), running(machine, Register::P));
-    println!("run: steps {taken}, reason {number}, P {p:06o}");
+    let ran = machine.run(steps)?;
+    let (taken, references) = (ran.steps, ran.references);
+    let (number, p) = (ran.reason.number(), running(machine, Register::P));
+    println!("run: steps {taken}, reason {number}, references {references}, P {p:06o}");
     Ok(())
 }
 

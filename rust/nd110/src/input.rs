@@ -2,7 +2,7 @@
 
 use crate::library::{self, Ended, Inputs};
 use crate::numbers::{NO_CHARACTER, READ_OUT, TICK, TYPED};
-use crate::{Reason, Refusal, State, answer, ended};
+use crate::{Ran, Reason, Refusal, State, answer, ran};
 
 /// What is handed in between two steps.
 #[derive(Clone, Copy, Debug, PartialEq, Eq)]
@@ -56,6 +56,8 @@ pub enum Told {
 pub struct InputRun {
     pub steps: u64,
     pub reason: Reason,
+    /// Memory references of these steps, as a [`Ran`] has them; no input makes any.
+    pub references: u64,
     /// What each input that was handed in was told, in their order.
     pub told: Vec<Told>,
 }
@@ -79,9 +81,9 @@ pub(crate) fn character(word: u16) -> Option<u8> {
 /// let mut machine = Machine::load(&image, 16)?;
 /// let inputs = [(0, Input::Typed(b'A')), (2, Input::ReadOut)];
 /// let ran = machine.run_with_input(2, &inputs)?;
-/// let (steps, reason) = (2, Reason::Spent);
+/// let (steps, reason, references) = (2, Reason::Spent, 2);
 /// let told = vec![Told::Done, Told::Character(b'A')];
-/// assert_eq!(ran, InputRun { steps, reason, told });
+/// assert_eq!(ran, InputRun { steps, reason, references, told });
 /// # Ok::<(), nd110::Refusal>(())
 /// ```
 pub fn run_with_input(
@@ -101,12 +103,17 @@ pub fn run_with_input(
         told: &mut told,
     };
     let number = library::run_with_input(&mut state.0, memory, tables, steps, lists, &mut end);
-    let (steps, reason) = ended(number, end.steps, end.reason)?;
+    let Ran {
+        steps,
+        reason,
+        references,
+    } = ran(number, &end)?;
     // the library is proved to hand in no more than there are
     let handed = inputs.iter().zip(told).take(end.handed as usize);
     Ok(InputRun {
         steps,
         reason,
+        references,
         told: handed.map(|((_, input), word)| input.told(word)).collect(),
     })
 }

@@ -9,13 +9,14 @@
 //! them; its methods are the same operations. `examples/host.rs` shows its use.
 //!
 //! ```
-//! use nd110::{Machine, Reason, Register};
+//! use nd110::{Machine, Ran, Reason, Register};
 //!
 //! // SAA 5, AAA 3, WAIT: one entry, memory from 0 on, three words
 //! let image = [1, 1, 0, 0, 0, 3, 0o170405, 0o172403, 0o151000];
 //! let mut machine = Machine::load(&image, 16)?;
 //! assert_eq!(machine.step()?, 0);
-//! assert_eq!(machine.run(1000)?, (2, Reason::Stopped));
+//! let (steps, reason, references) = (2, Reason::Stopped, 2);
+//! assert_eq!(machine.run(1000)?, Ran { steps, reason, references });
 //! assert_eq!(machine.register(0, Register::A), 0o10);
 //! # Ok::<(), nd110::Refusal>(())
 //! ```
@@ -89,10 +90,25 @@ fn answer(number: u16) -> Result<(), Refusal> {
     Err(*refusal.expect("a refusal's number"))
 }
 
-/// Steps taken and why a run ended; the library is proved to give a reason's number.
-fn ended(number: u16, steps: u64, reason: u16) -> Result<(u64, Reason), Refusal> {
+/// A run.
+#[derive(Clone, Copy, Debug, PartialEq, Eq)]
+pub struct Ran {
+    /// Steps taken.
+    pub steps: u64,
+    pub reason: Reason,
+    /// Memory references of these steps, the sum's low 64 bits: words fetched, indirect words, operand words read and
+    /// written, an access that fails included. No step makes more than nine.
+    pub references: u64,
+}
+
+/// What a run told; the library is proved to give a reason's number.
+fn ran(number: u16, ended: &library::Ended) -> Result<Ran, Refusal> {
     answer(number)?;
-    Ok((steps, Reason::ALL[usize::from(reason)]))
+    Ok(Ran {
+        steps: ended.steps,
+        reason: Reason::ALL[usize::from(ended.reason)],
+        references: ended.references,
+    })
 }
 
 /// One step; answers the number of the interrupt that it gave, 0 if none. Refuses 1, 2.
@@ -114,16 +130,16 @@ pub fn step_lent(
     Ok(interrupt)
 }
 
-/// At most `steps` steps, interrupts and changes of level included; answers steps taken and why it ended. Refuses 1, 2.
+/// At most `steps` steps, interrupts and changes of level included. Refuses 1, 2.
 pub fn run(
     state: &mut State,
     memory: &mut [u16],
     tables: &mut [u16],
     steps: u64,
-) -> Result<(u64, Reason), Refusal> {
-    let (mut taken, mut reason) = (0, 0);
-    let number = library::run(&mut state.0, memory, tables, steps, &mut taken, &mut reason);
-    ended(number, taken, reason)
+) -> Result<Ran, Refusal> {
+    let mut ended = library::Ended::default();
+    let number = library::run(&mut state.0, memory, tables, steps, &mut ended);
+    ran(number, &ended)
 }
 
 /// At most `steps` steps, up to the first that gives an interrupt, or before a change of level. Refuses 1, 2.
@@ -132,11 +148,10 @@ pub fn run_to_interrupt(
     memory: &mut [u16],
     tables: &mut [u16],
     steps: u64,
-) -> Result<(u64, Reason), Refusal> {
-    let (mut taken, mut reason) = (0, 0);
-    let number =
-        library::run_to_interrupt(&mut state.0, memory, tables, steps, &mut taken, &mut reason);
-    ended(number, taken, reason)
+) -> Result<Ran, Refusal> {
+    let mut ended = library::Ended::default();
+    let number = library::run_to_interrupt(&mut state.0, memory, tables, steps, &mut ended);
+    ran(number, &ended)
 }
 
 /// A device raises a level. Refuses 1, 2, 3.

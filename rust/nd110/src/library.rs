@@ -34,6 +34,7 @@ mod raw {
             n: u64,
             steps: *mut u64,
             reason: *mut u16,
+            references: *mut u64,
         ) -> u16;
         pub fn nd110_run_to_interrupt(
             state: *mut u16,
@@ -45,6 +46,7 @@ mod raw {
             n: u64,
             steps: *mut u64,
             reason: *mut u16,
+            references: *mut u64,
         ) -> u16;
         pub fn nd110_raise(
             state: *mut u16,
@@ -106,6 +108,7 @@ mod raw {
             handed: *mut u64,
             steps: *mut u64,
             reason: *mut u16,
+            references: *mut u64,
         ) -> u16;
         pub fn nd110_load(
             state: *mut u16,
@@ -188,13 +191,21 @@ pub fn step_lent(
     }
 }
 
+/// What a run tells beside its number; a run without input leaves `handed`.
+#[derive(Debug, Default, PartialEq)]
+pub struct Ended {
+    pub handed: u64,
+    pub steps: u64,
+    pub reason: u16,
+    pub references: u64,
+}
+
 pub fn run(
     state: &mut [u16],
     memory: &mut [u16],
     tables: &mut [u16],
     n: u64,
-    steps: &mut u64,
-    reason: &mut u16,
+    ended: &mut Ended,
 ) -> u16 {
     unsafe {
         raw::nd110_run(
@@ -205,8 +216,9 @@ pub fn run(
             tables.as_mut_ptr(),
             tables.len(),
             n,
-            steps,
-            reason,
+            &mut ended.steps,
+            &mut ended.reason,
+            &mut ended.references,
         )
     }
 }
@@ -216,8 +228,7 @@ pub fn run_to_interrupt(
     memory: &mut [u16],
     tables: &mut [u16],
     n: u64,
-    steps: &mut u64,
-    reason: &mut u16,
+    ended: &mut Ended,
 ) -> u16 {
     unsafe {
         raw::nd110_run_to_interrupt(
@@ -228,8 +239,9 @@ pub fn run_to_interrupt(
             tables.as_mut_ptr(),
             tables.len(),
             n,
-            steps,
-            reason,
+            &mut ended.steps,
+            &mut ended.reason,
+            &mut ended.references,
         )
     }
 }
@@ -309,14 +321,6 @@ pub struct Inputs<'a> {
     pub told: &'a mut [u16],
 }
 
-/// What a run with input tells beside its number.
-#[derive(Debug, Default, PartialEq)]
-pub struct Ended {
-    pub handed: u64,
-    pub steps: u64,
-    pub reason: u16,
-}
-
 pub fn run_with_input(
     state: &mut [u16],
     memory: &mut [u16],
@@ -344,6 +348,7 @@ pub fn run_with_input(
             &mut ended.handed,
             &mut ended.steps,
             &mut ended.reason,
+            &mut ended.references,
         )
     }
 }
@@ -444,8 +449,8 @@ mod tests {
                 let (s, m, t) = (&mut state[..], &mut memory[..], &mut tables[..]);
                 let number = match call {
                     0 => step(s, m, t, &mut interrupt),
-                    1 => run(s, m, t, 0, &mut ended.steps, &mut ended.reason),
-                    2 => run_to_interrupt(s, m, t, 0, &mut ended.steps, &mut ended.reason),
+                    1 => run(s, m, t, 0, &mut ended),
+                    2 => run_to_interrupt(s, m, t, 0, &mut ended),
                     3 => raise(s, 10, m, t),
                     4 => load(s, &image, m, t),
                     5 => write(s, m, t, &mut out),
@@ -469,12 +474,13 @@ mod tests {
             .collect()
     }
 
-    /// What a run tells, before it.
+    /// What a run tells, before it; of the references all 64 bits.
     fn untold() -> Ended {
         Ended {
             handed: F.into(),
             steps: F.into(),
             reason: F,
+            references: u64::MAX,
         }
     }
 
@@ -519,11 +525,39 @@ mod tests {
                 handed: handed as u64,
                 steps: 0,
                 reason: 2,
+                references: 0,
             };
             assert_eq!((number, ended), (0, wanted), "{lens:?}");
             let (ready, unread) = (u16::from(handed > 0), u16::from(handed > 1));
             assert_eq!((state[157], state[160]), (ready, unread));
             assert_eq!(told, [[F, F], [0, F], [0, 0]][handed]);
+        }
+    }
+
+    /// Runs of a state out of range, and with memory of no page, leave what they would have told.
+    #[test]
+    fn refused_runs_tell_nothing() {
+        for (refusal, level, len) in [(2, 16, PAGE_WORDS), (1, 16, 0), (1, 0, PAGE_WORDS - 1)] {
+            for form in 0..3 {
+                let (mut state, mut told) = ([0; 168], [F]);
+                state[128] = level;
+                let (mut memory, mut tables) = ([F; PAGE_WORDS], [F; TABLE_WORDS]);
+                let (s, m, t) = (&mut state, &mut memory[..len], &mut tables);
+                let mut ended = untold();
+                let number = match form {
+                    0 => run(s, m, t, 10, &mut ended),
+                    1 => run_to_interrupt(s, m, t, 10, &mut ended),
+                    _ => {
+                        let inputs = Inputs {
+                            at: &[0],
+                            what: &[256],
+                            told: &mut told,
+                        };
+                        run_with_input(s, m, t, 10, inputs, &mut ended)
+                    }
+                };
+                assert_eq!((number, ended, told), (refusal, untold(), [F]));
+            }
         }
     }
 

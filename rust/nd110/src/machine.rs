@@ -1,8 +1,8 @@
 //! A machine that owns its words.
 
 use crate::{
-    Control, Device, IMAGE_EXTRA, Input, InputRun, MEMORY_MOST, PAGE_WORDS, Reason, Refusal,
-    Register, State, TABLE_WORDS, Target,
+    Control, Device, IMAGE_EXTRA, Input, InputRun, MEMORY_MOST, PAGE_WORDS, Ran, Refusal, Register,
+    State, TABLE_WORDS, Target,
 };
 use std::fmt;
 
@@ -49,14 +49,13 @@ impl Machine {
         crate::raise(&mut self.state, level, &self.memory, &self.tables)
     }
 
-    /// At most `steps` steps, interrupts and changes of level included; answers steps taken and why it ended. Refuses
-    /// 2.
-    pub fn run(&mut self, steps: u64) -> Result<(u64, Reason), Refusal> {
+    /// At most `steps` steps, interrupts and changes of level included. Refuses 2.
+    pub fn run(&mut self, steps: u64) -> Result<Ran, Refusal> {
         crate::run(&mut self.state, &mut self.memory, &mut self.tables, steps)
     }
 
     /// At most `steps` steps, up to the first that gives an interrupt, or before a change of level. Refuses 2.
-    pub fn run_to_interrupt(&mut self, steps: u64) -> Result<(u64, Reason), Refusal> {
+    pub fn run_to_interrupt(&mut self, steps: u64) -> Result<Ran, Refusal> {
         crate::run_to_interrupt(&mut self.state, &mut self.memory, &mut self.tables, steps)
     }
 

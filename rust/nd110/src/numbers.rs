@@ -4,7 +4,7 @@ use std::error::Error;
 use std::fmt;
 
 /// The version of the interface.
-pub const VERSION: usize = 5;
+pub const VERSION: usize = 6;
 
 /// Words of a state in image order: 128 registers, 28 control words, then 12 words of the devices.
 pub const STATE_WORDS: usize = 168;

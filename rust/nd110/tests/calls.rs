@@ -1,10 +1,10 @@
 //! Every function of this crate called through the archive, with arguments that cannot be taken for one another. What
 //! must come is written by hand from document 01, of the conversions from document 02, card 12. tests/calls.c is the
-//! same through the C header. What the devices do is in devices.rs.
+//! same through the C header. What the devices do is in devices.rs, the references of each instruction in references.rs.
 
 use nd110::{
-    IMAGE_EXTRA, Input, InputRun, PAGE_WORDS, Reason, Refusal, STATE_WORDS, State, TABLE_WORDS,
-    Target, Told, image_words, load, long_to_short, raise, raise_lent, read_out, run,
+    IMAGE_EXTRA, Input, InputRun, PAGE_WORDS, Ran, Reason, Refusal, STATE_WORDS, State,
+    TABLE_WORDS, Target, Told, image_words, load, long_to_short, raise, raise_lent, read_out, run,
     run_to_interrupt, run_with_input, short_to_long, step, step_lent, tick, type_character, view,
     view_into, write,
 };
@@ -45,6 +45,15 @@ const IID: usize = 135;
 const IIE: usize = 136;
 const HELD: usize = 154;
 const EXTENDED: usize = 155;
+
+/// What a run answers.
+fn ran(steps: u64, reason: Reason, references: u64) -> Ran {
+    Ran {
+        steps,
+        reason,
+        references,
+    }
+}
 
 #[derive(Clone, Debug, PartialEq)]
 struct Machine {
@@ -108,11 +117,11 @@ impl Machine {
         step_lent(&mut self.state, &mut self.memory, &mut self.tables)
     }
 
-    fn run(&mut self, steps: u64) -> Result<(u64, Reason), Refusal> {
+    fn run(&mut self, steps: u64) -> Result<Ran, Refusal> {
         run(&mut self.state, &mut self.memory, &mut self.tables, steps)
     }
 
-    fn run_to_interrupt(&mut self, steps: u64) -> Result<(u64, Reason), Refusal> {
+    fn run_to_interrupt(&mut self, steps: u64) -> Result<Ran, Refusal> {
         run_to_interrupt(&mut self.state, &mut self.memory, &mut self.tables, steps)
     }
 
@@ -180,8 +189,8 @@ impl Machine {
 #[test]
 fn through() {
     let mut m = Machine::stepped();
-    assert_eq!(m.run(3), Ok((3, Reason::Spent)));
-    assert_eq!(m.run(10), Ok((1, Reason::Stopped)));
+    assert_eq!(m.run(3), Ok(ran(3, Reason::Spent, 3)));
+    assert_eq!(m.run(10), Ok(ran(1, Reason::Stopped, 1)));
     m.is(&[
         (A_0, 0o10),
         (P_0, 5),
@@ -195,11 +204,12 @@ fn through() {
     ]);
 }
 
-/// AAA 3 and MON 7, which ends it; a device's level 11; the illegal word by a step; a change to level 14, which is due.
+/// AAA 3 and MON 7, which ends it; a device's level 11; the illegal word by a step; a change to level 14, which is due
+/// and makes no reference.
 #[test]
 fn to_interrupt() {
     let mut m = Machine::stepped();
-    assert_eq!(m.run_to_interrupt(10), Ok((2, Reason::Interrupt)));
+    assert_eq!(m.run_to_interrupt(10), Ok(ran(2, Reason::Interrupt, 2)));
     let (p, iid, ion) = ((P_0, 3), (IID, 2), (ION, 1));
     let (a, a_2, t_14, iie) = ((A_0, 0o10), (A_2, 0o321), (T_14, 7), (IIE, 0o20));
     m.is(&[a, p, a_2, t_14, (PIE, 0o10000), iid, iie]);
@@ -210,9 +220,9 @@ fn to_interrupt() {
     m.is(&[a, p, a_2, t_14, pid, (PIE, 0o10000), iid, iie]);
     m.state.0[ION] = 1;
     m.state.0[PIE] = 0o50000;
-    assert_eq!(m.run_to_interrupt(10), Ok((0, Reason::Level)));
+    assert_eq!(m.run_to_interrupt(10), Ok(ran(0, Reason::Level, 0)));
     m.is(&[a, p, a_2, t_14, ion, pid, pie, iid, iie]);
-    assert_eq!(m.run(1), Ok((1, Reason::Spent)));
+    assert_eq!(m.run(1), Ok(ran(1, Reason::Spent, 0)));
     m.is(&[a, p, a_2, t_14, (LEVEL, 14), ion, pid, pie, iid, iie]);
 }
 
@@ -259,6 +269,7 @@ fn with_input() {
     let ran = InputRun {
         steps: 3,
         reason: Reason::Interrupt,
+        references: 3,
         told: vec![
             Told::Done,
             Told::Refused(Refusal::RaiseLevel),

@@ -538,15 +538,13 @@ fn with_input() {
         Told::Done,
         Told::Done,
     ];
-    let (steps, reason) = (12, Reason::Spent);
-    assert_eq!(
-        ran,
-        InputRun {
-            steps,
-            reason,
-            told
-        }
-    );
+    let want = InputRun {
+        steps: 12,
+        reason: Reason::Spent,
+        references: 12,
+        told,
+    };
+    assert_eq!(ran, want);
     let change = [
         (P_0, 1),
         (PID, 0o100000),
@@ -565,7 +563,10 @@ fn levels_that_are_no_input() {
         .map(|level| (0, Input::Raise(level)))
         .collect();
     let ran = m.run_with_input(0, &inputs).unwrap();
-    assert_eq!((ran.steps, ran.reason), (0, Reason::Spent));
+    assert_eq!(
+        (ran.steps, ran.reason, ran.references),
+        (0, Reason::Spent, 0)
+    );
     assert_eq!(ran.told.len(), 65536);
     for (level, told) in ran.told.into_iter().enumerate() {
         let want = match level {
@@ -587,26 +588,28 @@ fn ends_of_a_run() {
         let mut m = before(word, state);
         let ran = m.run_with_input(steps, inputs).unwrap();
         let device = m.state.device(Device::ClockReady);
-        (ran.steps, ran.reason, ran.told.len(), device)
+        let ends = (ran.steps, ran.reason, ran.references);
+        (ends, ran.told.len(), device)
     };
-    assert_eq!(run(WAIT, &[], 9, &two), (1, Reason::Stopped, 0, 0));
+    assert_eq!(run(WAIT, &[], 9, &two), ((1, Reason::Stopped, 1), 0, 0));
     assert_eq!(
         run(WAIT, &[(STOPPED, 1)], 9, &[(0, Input::Tick)]),
-        (0, Reason::Stopped, 0, 0)
+        ((0, Reason::Stopped, 0), 0, 0)
     );
-    assert_eq!(run(IDENT, &[], 9, &two), (1, Reason::Interrupt, 0, 0));
-    assert_eq!(run(SAA_5, on, 9, &two), (1, Reason::Level, 1, 1));
-    assert_eq!(run(SAA_5, on, 1, &two), (1, Reason::Level, 1, 1));
+    assert_eq!(run(IDENT, &[], 9, &two), ((1, Reason::Interrupt, 1), 0, 0));
+    assert_eq!(run(SAA_5, on, 9, &two), ((1, Reason::Level, 1), 1, 1));
+    assert_eq!(run(SAA_5, on, 1, &two), ((1, Reason::Level, 1), 1, 1));
     assert_eq!(
         run(SAA_5, on, 0, &[(0, Input::Tick)]),
-        (0, Reason::Level, 1, 1)
+        ((0, Reason::Level, 0), 1, 1)
     );
-    assert_eq!(run(SAA_5, &[], 1, &two), (1, Reason::Spent, 2, 1));
+    assert_eq!(run(SAA_5, &[], 1, &two), ((1, Reason::Spent, 1), 2, 1));
     assert_eq!(
         run(SAA_5, &[], 1, &[(2, Input::Tick), (0, Input::Tick)]),
-        (1, Reason::Spent, 0, 0)
+        ((1, Reason::Spent, 1), 0, 0)
     );
-    assert_eq!(run(SAA_5, &[], 3, &[]), (3, Reason::Spent, 0, 0));
+    // SAA 5, and two words that are 0, STZ *0
+    assert_eq!(run(SAA_5, &[], 3, &[]), ((3, Reason::Spent, 5), 0, 0));
 }
 
 /// A run with input is the run to each input's step and the operation there, whatever is typed and read out.
@@ -620,14 +623,14 @@ fn as_the_operations() {
         inputs.push((at, Input::Tick));
     }
     let (mut whole, mut pieces) = (echo(), echo());
-    let ran = whole.run_with_input(1000, &inputs).unwrap();
+    let all = whole.run_with_input(1000, &inputs).unwrap();
     let mut taken = 0;
     let mut told = Vec::new();
     for (at, input) in inputs {
         let further = at.saturating_sub(taken);
         assert_eq!(
             pieces.run_to_interrupt(further),
-            Ok((further, Reason::Spent))
+            Ok(ran(further, Reason::Spent, further))
         );
         taken += further;
         let refused =
@@ -643,22 +646,20 @@ fn as_the_operations() {
     }
     assert_eq!(
         pieces.run_to_interrupt(1000 - taken),
-        Ok((1000 - taken, Reason::Spent))
+        Ok(ran(1000 - taken, Reason::Spent, 1000 - taken))
     );
     let characters = told
         .iter()
         .filter(|told| matches!(told, Told::Character(_)));
     assert!(characters.count() > 50);
     assert!(told.contains(&Told::Refused(Refusal::Unread)));
-    let (steps, reason) = (1000, Reason::Spent);
-    assert_eq!(
-        ran,
-        InputRun {
-            steps,
-            reason,
-            told
-        }
-    );
+    let want = InputRun {
+        steps: 1000,
+        reason: Reason::Spent,
+        references: 1000,
+        told,
+    };
+    assert_eq!(all, want);
     whole.is(&pieces, "both");
 }
 
@@ -681,15 +682,16 @@ fn clock_on_level_13() {
         &[],
     );
     m.memory[0o100..0o106].copy_from_slice(&program);
-    assert_eq!(m.run(10), Ok((10, Reason::Spent)));
+    assert_eq!(m.run(10), Ok(ran(10, Reason::Spent, 10)));
     assert_eq!(m.state.0[LEVEL], 0);
     for _ in 0..3 {
         assert_eq!(m.tick(), Ok(()));
         assert_eq!((m.state.0[PID], m.state.0[CLOCK_ASKS]), (PID_13 | 1, 1));
         // a change of level, the four, a change back; from the second time on also JMP *-4
         let steps = if m.state.0[P_13] == 0o100 { 6 } else { 7 };
-        assert_eq!(m.run_to_interrupt(100), Ok((0, Reason::Level)));
-        assert_eq!(m.run(steps), Ok((steps, Reason::Spent)));
+        assert_eq!(m.run_to_interrupt(100), Ok(ran(0, Reason::Level, 0)));
+        // none for a change, two for LDA, one for each of the others
+        assert_eq!(m.run(steps), Ok(ran(steps, Reason::Spent, steps - 1)));
         assert_eq!((m.state.0[LEVEL], m.state.0[PID]), (0, 1));
         assert_eq!(m.state.0[P_13], 0o104);
         let clock = &m.state.0[CLOCK_ENABLED..INPUT_ENABLED];

@@ -21,10 +21,10 @@ fn status() {
             let m = start.gives(0, &[(P_0, 1), (EXTENDED, flag)], &[], &[], "SEX, REX");
             let m = m.gives(0, &[(P_0, 2), (A_0, a)], &[], &[], "TRA STS");
             let end = m.gives(0, &[(P_0, 3), (STOPPED, 1)], &[], &[], "WAIT");
-            let mut ran = start.clone();
-            assert_eq!(ran.run(10), Ok((3, Reason::Stopped)));
-            ran.is(&end, "a run");
-            assert_eq!(ran.state.control(Control::Extended), flag);
+            let mut through = start.clone();
+            assert_eq!(through.run(10), Ok(ran(3, Reason::Stopped, 3)));
+            through.is(&end, "a run");
+            assert_eq!(through.state.control(Control::Extended), flag);
         }
     }
 }
@@ -139,9 +139,9 @@ fn next_access() {
     let end = m.gives(0, &[(P_0, 5), (STOPPED, 1)], &[], &[], "WAIT");
     let forms: [fn(&mut Machine, u64) -> _; 2] = [Machine::run, Machine::run_to_interrupt];
     for form in forms {
-        let mut ran = start.clone();
-        assert_eq!(form(&mut ran, 100), Ok((5, Reason::Stopped)));
-        ran.is(&end, "a run");
+        let mut m = start.clone();
+        assert_eq!(form(&mut m, 100), Ok(ran(5, Reason::Stopped, 5)));
+        m.is(&end, "a run");
     }
 }
 
@@ -162,8 +162,9 @@ fn next_fetch_faults() {
         let told = pgs.map(|pgs| [(PGS, pgs), (HELD, 1)]);
         let state: &Named = told.as_ref().map_or(&[], |told| told);
         m.gives(interrupt, state, &[], &[], "the fetch behind SEX");
-        let mut ran = start.clone();
-        assert_eq!(ran.run_to_interrupt(10), Ok((2, Reason::Interrupt)));
+        let mut m = start.clone();
+        // SEX, and the fetch that fails
+        assert_eq!(m.run_to_interrupt(10), Ok(ran(2, Reason::Interrupt, 2)));
     }
 }
 

@@ -3,8 +3,8 @@
 //! hand from document 02, card 3, and document 01. tests/calls.c has a part of it through the C header.
 
 use nd110::{
-    Control, IMAGE_EXTRA, Machine as Owned, PAGE_WORDS, Reason, Refusal, Register, STATE_WORDS,
-    State, TABLE_WORDS, load, run, run_to_interrupt, step, step_lent, write,
+    Control, IMAGE_EXTRA, Machine as Owned, PAGE_WORDS, Ran, Reason, Refusal, Register,
+    STATE_WORDS, State, TABLE_WORDS, load, run, run_to_interrupt, step, step_lent, write,
 };
 
 const MEMORY: usize = 2 * PAGE_WORDS;
@@ -70,11 +70,11 @@ impl Machine {
         step_lent(&mut self.state, &mut self.memory, &mut self.tables)
     }
 
-    fn run(&mut self, steps: u64) -> Result<(u64, Reason), Refusal> {
+    fn run(&mut self, steps: u64) -> Result<Ran, Refusal> {
         run(&mut self.state, &mut self.memory, &mut self.tables, steps)
     }
 
-    fn run_to_interrupt(&mut self, steps: u64) -> Result<(u64, Reason), Refusal> {
+    fn run_to_interrupt(&mut self, steps: u64) -> Result<Ran, Refusal> {
         run_to_interrupt(&mut self.state, &mut self.memory, &mut self.tables, steps)
     }
 
@@ -97,7 +97,8 @@ impl Machine {
             0 => Reason::Spent,
             _ => Reason::Stopped,
         };
-        assert_eq!(ran.run(1), Ok((1, reason)));
+        let one = ran.run(1).unwrap();
+        assert_eq!((one.steps, one.reason), (1, reason));
         assert_eq!(ran, plain);
         plain
     }
@@ -119,6 +120,9 @@ fn faulting() -> Machine {
     let program: Vec<(usize, u16)> = PROGRAM.into_iter().enumerate().collect();
     Machine::new(&STARTED, &program, &[(64, 0o162000), (67, 0o163001)])
 }
+
+/// References from the start on after so many of its steps: two for each that faults, one for each TRA PGS.
+const REFERENCES: [u64; 7] = [0, 2, 4, 5, 6, 8, 9];
 
 /// After so many of its steps: the interrupt; P, A, PID, IID; PGS, and whether it is held. Of the first fault PGS is
 /// bit 14, table 1 and page 2; of the second, which finds it held, it would be table 1 and page 3, as it is of the
@@ -158,9 +162,14 @@ fn read_late() {
 
 #[test]
 fn read_late_by_runs() {
-    for steps in 1..=6 {
+    for (steps, references) in REFERENCES.into_iter().enumerate().skip(1) {
         let mut m = faulting();
-        assert_eq!(m.run(steps as u64), Ok((steps as u64, Reason::Spent)));
+        let want = Ran {
+            steps: steps as u64,
+            reason: Reason::Spent,
+            references,
+        };
+        assert_eq!(m.run(steps as u64), Ok(want));
         assert_eq!(m, faulting_after(steps), "after {steps} steps");
     }
     let mut m = faulting();
@@ -171,7 +180,12 @@ fn read_late_by_runs() {
         (10, 2, Reason::Interrupt, 5),
         (1, 1, Reason::Spent, 6),
     ] {
-        assert_eq!(m.run_to_interrupt(asked), Ok((taken, reason)));
+        let want = Ran {
+            steps: taken as u64,
+            reason,
+            references: REFERENCES[steps] - REFERENCES[steps - taken],
+        };
+        assert_eq!(m.run_to_interrupt(asked), Ok(want));
         assert_eq!(m, faulting_after(steps), "after {steps} steps");
     }
 }

@@ -124,8 +124,8 @@ fn last_word_by_registers() {
 fn largest_image_again() {
     let program = [LDA_B, STATX, LDATX + 8, WAIT];
     let mut m = largest(&program);
-    // LDA by page 16,383, STATX of it, then LDATX one past the memory
-    assert_eq!(m.run_to_interrupt(10), Ok((3, Reason::Interrupt)));
+    // LDA by page 16,383, STATX of it, then LDATX one past the memory: two references each
+    assert_eq!(m.run_to_interrupt(10), Ok(ran(3, Reason::Interrupt, 6)));
     let named: &Named = &[
         (D_0, 0o177777),
         (P_0, 3),
@@ -143,7 +143,7 @@ fn largest_image_again() {
     assert_eq!(m.state, want);
     assert_eq!(raise(&mut m.state, 10, &m.memory, &m.tables), Ok(()));
     assert_eq!(m.state.0[PID], 0o2000);
-    assert_eq!(m.run(10), Ok((1, Reason::Stopped)));
+    assert_eq!(m.run(10), Ok(ran(1, Reason::Stopped, 1)));
     let part = |start, len| view(Target::Memory, start, len, &m.memory, &m.tables);
     assert_eq!(part(LAST, 1), Ok(&[0o123321][..]));
     assert_eq!(part(LARGEST, 0), Ok(&[][..]));

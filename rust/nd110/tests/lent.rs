@@ -3,7 +3,7 @@
 //! sets, is written by hand from document 01.
 
 use nd110::{
-    Control, Device, IMAGE_EXTRA, Input, MEMORY_MOST, Machine, PAGE_WORDS, Reason, Refusal,
+    Control, Device, IMAGE_EXTRA, Input, MEMORY_MOST, Machine, PAGE_WORDS, Ran, Reason, Refusal,
     Register, State, TABLE_WORDS, Target, load, raise, raise_lent, read_out, run, run_to_interrupt,
     run_with_input, step, step_lent, tick, type_character, view, write,
 };
@@ -603,6 +603,15 @@ fn raises_stay() {
     }
 }
 
+/// What a run answers.
+fn ran(steps: u64, reason: Reason, references: u64) -> Ran {
+    Ran {
+        steps,
+        reason,
+        references,
+    }
+}
+
 /// SAA 5; AAA 3; MON 7; a word that is no instruction; WAIT. IIE has interrupt 4.
 const IMAGE: [u16; 17] = [
     2, 1, 0, 0, 0, 5, 3, 0, 8, 0, 1, 0o170405, 0o172403, 0o153007, 0o160000, 0o151000, 0o20,
@@ -634,7 +643,8 @@ fn machine_by_hand() {
     let mut machine = Machine::load(&IMAGE, 2).unwrap();
     assert_eq!(machine.step(), Ok(0));
     assert_eq!(machine.register(0, Register::A), 5);
-    assert_eq!(machine.run_to_interrupt(10), Ok((2, Reason::Interrupt)));
+    let want = ran(2, Reason::Interrupt, 2);
+    assert_eq!(machine.run_to_interrupt(10), Ok(want));
     assert_eq!(machine.register(0, Register::A), 8);
     assert_eq!(machine.register(14, Register::T), 7);
     assert_eq!(machine.raise(14), Err(Refusal::RaiseLevel));
@@ -642,9 +652,9 @@ fn machine_by_hand() {
     assert_eq!(machine.control(Control::Pid), 0o4000);
     assert_eq!(machine.step(), Ok(4));
     assert_eq!(machine.control(Control::Pid), 0o44000);
-    assert_eq!(machine.run(10), Ok((1, Reason::Stopped)));
+    assert_eq!(machine.run(10), Ok(ran(1, Reason::Stopped, 1)));
     assert_eq!(machine.control(Control::Stopped), 1);
-    assert_eq!(machine.run(10), Ok((0, Reason::Stopped)));
+    assert_eq!(machine.run(10), Ok(ran(0, Reason::Stopped, 0)));
     assert_eq!(machine.view(Target::Memory, 1, 2).unwrap(), &IMAGE[12..14]);
     assert_eq!(machine.view(Target::Tables, 511, 2), Err(Refusal::View));
 }
@@ -686,7 +696,9 @@ fn machine_as_the_functions() {
             let ran = run(&mut m.state, &mut m.memory, &mut m.tables, steps);
             assert_eq!(machine.run(steps), ran);
             assert!(m.is(&machine));
-            spent += u32::from(ran == Ok((steps, Reason::Spent)));
+            let ran = ran.expect("in range");
+            spent += u32::from((ran.steps, ran.reason) == (steps, Reason::Spent));
+            assert!(ran.references <= 9 * ran.steps);
             let ran = run_to_interrupt(&mut m.state, &mut m.memory, &mut m.tables, steps);
             assert_eq!(machine.run_to_interrupt(steps), ran);
             assert!(m.is(&machine));
@@ -759,7 +771,7 @@ fn same_image(m: &Pieces, machine: &Machine) {
 #[test]
 fn machine_shown() {
     let mut machine = Machine::load(&IMAGE, 512).unwrap();
-    assert_eq!(machine.run(3), Ok((3, Reason::Spent)));
+    assert_eq!(machine.run(3), Ok(ran(3, Reason::Spent, 3)));
     let shown = format!("{machine:?}");
     assert_eq!(
         shown,

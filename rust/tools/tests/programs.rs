@@ -36,6 +36,12 @@ fn trace(args: &[&str], image: &[u16]) -> Vec<Vec<String>> {
         .collect()
 }
 
+/// Lines as `trace` gives them.
+fn words(lines: &[&str]) -> Vec<Vec<String>> {
+    let words = |line: &&str| line.split(' ').map(str::to_string).collect();
+    lines.iter().map(words).collect()
+}
+
 /// Ends with this exit status and a message that has this text, and prints nothing.
 fn ends(program: &str, args: &[&str], input: &[u8], status: i32, why: &str) {
     let (ended, out, told) = run(program, args, input);
@@ -51,15 +57,52 @@ const ADD: [u16; 9] = [1, 1, 0, 0, 0, 3, 0o170405, 0o172403, 0o151000];
 
 #[test]
 fn trace_of_the_turn_example() {
-    let wanted = [
-        vec!["0", "000000", "170405", "SAA", "5", "A=000005"],
-        vec!["0", "000001", "172403", "AAA", "3", "A=000010"],
-        vec!["0", "000002", "151000", "WAIT", "STOPPED=000001"],
+    let steps = [
+        "0 000000 170405 SAA 5 1 A=000005",
+        "0 000001 172403 AAA 3 1 A=000010",
+        "0 000002 151000 WAIT 1 STOPPED=000001",
     ];
-    assert_eq!(trace(&[], &ADD), wanted);
-    assert_eq!(trace(&["18446744073709551615", "16384"], &ADD), wanted);
-    assert_eq!(trace(&["2", "1"], &ADD), wanted[..2]);
-    assert_eq!(trace(&["0"], &ADD), wanted[..0]);
+    let wanted = |lines: &[&str], end| words(&[lines, &[end]].concat());
+    let all = wanted(&steps, "3 steps, 3 references");
+    assert_eq!(trace(&[], &ADD), all);
+    assert_eq!(trace(&["18446744073709551615", "16384"], &ADD), all);
+    let two = wanted(&steps[..2], "2 steps, 2 references");
+    assert_eq!(trace(&["2", "1"], &ADD), two);
+    assert_eq!(trace(&["0"], &ADD), wanted(&[], "0 steps, 0 references"));
+}
+
+/// The column between the mnemonic and what changed.
+#[test]
+fn trace_of_columns() {
+    let bytes: Vec<u8> = ADD.iter().flat_map(|word| word.to_be_bytes()).collect();
+    let (_, out, _) = run(TRACE, &["2"], &bytes);
+    let wanted = concat!(
+        " 0  000000  170405  SAA 5                1  A=000005\n",
+        " 0  000001  172403  AAA 3                1  A=000010\n",
+        "2 steps, 2 references\n",
+    );
+    assert_eq!(String::from_utf8(out).as_deref(), Ok(wanted));
+}
+
+/// LDA I, MIN, SRB and WAIT: the fetch of each; the indirect word and the operand; a word read and written; eight
+/// words.
+#[test]
+fn trace_of_references() {
+    let image = [
+        2, // memory 0 to 6; X
+        1, 0, 0, 0, 7, //
+        2, 0, 7, 0, 1, //
+        0o045004, 0o040004, 0o152412, 0o151000, 6, 0, 0o054321, //
+        0o000100,
+    ];
+    let wanted = [
+        "0 000000 045004 LDA I *4 3 A=054321",
+        "0 000001 040004 MIN *4 3",
+        "0 000002 152412 SRB 10 9",
+        "0 000003 151000 WAIT 1 STOPPED=000001",
+        "4 steps, 16 references",
+    ];
+    assert_eq!(trace(&[], &image), words(&wanted));
 }
 
 /// MON 7 with interrupts on, and interrupt 1 in IIE: level 14 is pending and runs next.
@@ -74,12 +117,12 @@ fn trace_of_an_interrupt() {
         0o153007, 1, 0o040000, 0o000002,
     ];
     let wanted = [
-        "0 000000 153007 MON 7 T(14)=000007 PID=040000 IID=000002 interrupt 1 MonitorCall",
-        "0 000001 ------ change of level LEVEL=000016",
-        "14 000000 153007 MON 7 interrupt 1 MonitorCall",
-    ]
-    .map(|line| line.split(' ').map(str::to_string).collect::<Vec<_>>());
-    assert_eq!(trace(&["3"], &image), wanted);
+        "0 000000 153007 MON 7 1 T(14)=000007 PID=040000 IID=000002 interrupt 1 MonitorCall",
+        "0 000001 ------ change of level 0 LEVEL=000016",
+        "14 000000 153007 MON 7 1 interrupt 1 MonitorCall",
+        "3 steps, 2 references",
+    ];
+    assert_eq!(trace(&["3"], &image), words(&wanted));
 }
 
 /// A store in page 2, which may not be written, then a read in page 1, which has no entry: PGS holds the first until
@@ -98,13 +141,13 @@ fn trace_of_two_faults() {
         0o002000, 0o004000, 1, 2, 0o162000, 0o002001, 0o062002,
     ];
     let wanted = [
-        "0 000000 006000 STA ,X 0 IID=000004 PGS=040002 HELD=000001 interrupt 2 Protect",
-        "0 000001 044400 LDA ,B 0 IID=000014 interrupt 3 PageFault",
-        "0 000002 150003 TRA PGS A=040002 HELD=000000",
-        "0 000003 151000 WAIT STOPPED=000001",
-    ]
-    .map(|line| line.split(' ').map(str::to_string).collect::<Vec<_>>());
-    assert_eq!(trace(&[], &image), wanted);
+        "0 000000 006000 STA ,X 0 2 IID=000004 PGS=040002 HELD=000001 interrupt 2 Protect",
+        "0 000001 044400 LDA ,B 0 2 IID=000014 interrupt 3 PageFault",
+        "0 000002 150003 TRA PGS 1 A=040002 HELD=000000",
+        "0 000003 151000 WAIT 1 STOPPED=000001",
+        "4 steps, 6 references",
+    ];
+    assert_eq!(trace(&[], &image), words(&wanted));
 }
 
 /// SEX with paging off, STATX of the entry of page 0, and TRA STS with the flag in bit 13.
@@ -118,13 +161,13 @@ fn trace_of_extended_mode() {
         0o162000, 0, 0o176777,
     ];
     let wanted = [
-        "0 000000 150406 SEX EXTENDED=000001",
-        "0 000001 143314 STATX 10",
-        "0 000002 150001 TRA STS A=030000",
-        "0 000003 151000 WAIT STOPPED=000001",
-    ]
-    .map(|line| line.split(' ').map(str::to_string).collect::<Vec<_>>());
-    assert_eq!(trace(&[], &image), wanted);
+        "0 000000 150406 SEX 1 EXTENDED=000001",
+        "0 000001 143314 STATX 10 2",
+        "0 000002 150001 TRA STS 1 A=030000",
+        "0 000003 151000 WAIT 1 STOPPED=000001",
+        "4 steps, 5 references",
+    ];
+    assert_eq!(trace(&[], &image), words(&wanted));
 }
 
 /// A character that an image has as typed: it is read and sent, and the output asks when it is enabled before.
@@ -138,15 +181,15 @@ fn trace_of_devices() {
         1, 1, 0o101,
     ];
     let wanted = [
-        "0 000000 143622 IDENT PL12 A=000001 INPUT-ASKS=000000",
-        "0 000001 164307 IOX 307 PID=002000 OUTPUT-ENABLED=000001 OUTPUT-ASKS=000001",
-        "0 000002 164300 IOX 300 A=000101 INPUT-UNREAD=000000",
-        "0 000003 164305 IOX 305 OUTPUT-WAITS=000001 OUTPUT=000101",
-        "0 000004 164012 IOX 12 A=000000",
-        "0 000005 151000 WAIT STOPPED=000001",
-    ]
-    .map(|line| line.split(' ').map(str::to_string).collect::<Vec<_>>());
-    assert_eq!(trace(&[], &image), wanted);
+        "0 000000 143622 IDENT PL12 1 A=000001 INPUT-ASKS=000000",
+        "0 000001 164307 IOX 307 1 PID=002000 OUTPUT-ENABLED=000001 OUTPUT-ASKS=000001",
+        "0 000002 164300 IOX 300 1 A=000101 INPUT-UNREAD=000000",
+        "0 000003 164305 IOX 305 1 OUTPUT-WAITS=000001 OUTPUT=000101",
+        "0 000004 164012 IOX 12 1 A=000000",
+        "0 000005 151000 WAIT 1 STOPPED=000001",
+        "6 steps, 6 references",
+    ];
+    assert_eq!(trace(&[], &image), words(&wanted));
 }
 
 #[test]

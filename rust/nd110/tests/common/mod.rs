@@ -1,7 +1,8 @@
-//! A machine in its three pieces, by every form of the step, for the tests of extended mode and of the devices.
+//! A machine in its three pieces, by every form of the step, for the tests of extended mode, of the devices and of
+//! references.
 
 use nd110::{
-    Input, InputRun, PAGE_WORDS, Reason, Refusal, State, TABLE_WORDS, Target, load, raise,
+    Input, InputRun, PAGE_WORDS, Ran, Reason, Refusal, State, TABLE_WORDS, Target, load, raise,
     raise_lent, read_out, run, run_to_interrupt, run_with_input, step, step_lent, tick,
     type_character, view, view_into, write,
 };
@@ -73,6 +74,15 @@ pub fn differ(got: &[u16], want: &[u16]) -> Option<(usize, u16, u16)> {
     words.find_map(|(at, (got, want))| (got != want).then_some((at, *got, *want)))
 }
 
+/// What a run answers.
+pub fn ran(steps: u64, reason: Reason, references: u64) -> Ran {
+    Ran {
+        steps,
+        reason,
+        references,
+    }
+}
+
 #[derive(Clone, PartialEq)]
 pub struct Machine {
     pub state: State,
@@ -117,11 +127,11 @@ impl Machine {
         step_lent(&mut self.state, &mut self.memory, &mut self.tables)
     }
 
-    pub fn run(&mut self, steps: u64) -> Result<(u64, Reason), Refusal> {
+    pub fn run(&mut self, steps: u64) -> Result<Ran, Refusal> {
         run(&mut self.state, &mut self.memory, &mut self.tables, steps)
     }
 
-    pub fn run_to_interrupt(&mut self, steps: u64) -> Result<(u64, Reason), Refusal> {
+    pub fn run_to_interrupt(&mut self, steps: u64) -> Result<Ran, Refusal> {
         run_to_interrupt(&mut self.state, &mut self.memory, &mut self.tables, steps)
     }
 
@@ -152,7 +162,7 @@ impl Machine {
 
     /// The machine after one step, which gives this interrupt whichever form makes it.
     pub fn stepped(&self, interrupt: u16, what: &str) -> Machine {
-        let [mut plain, mut lent, mut ran, mut first] = [(); 4].map(|()| self.clone());
+        let [mut plain, mut lent, mut run, mut first] = [(); 4].map(|()| self.clone());
         assert_eq!(plain.step(), Ok(interrupt), "{what}");
         assert_eq!(lent.step_lent(), Ok(interrupt), "{what}");
         // stopped is told before spent, an interrupt before both
@@ -160,13 +170,17 @@ impl Machine {
             0 => Reason::Spent,
             _ => Reason::Stopped,
         };
-        assert_eq!(ran.run(1), Ok((1, reason)), "{what}");
+        let through = run.run(1).unwrap();
+        assert_eq!((through.steps, through.reason), (1, reason), "{what}");
+        let references = through.references;
+        assert!((1..=9).contains(&references), "{what}: {references}");
         let reason = match interrupt {
             0 => reason,
             _ => Reason::Interrupt,
         };
-        assert_eq!(first.run_to_interrupt(1), Ok((1, reason)), "{what}");
-        for other in [lent, ran, first] {
+        let to_interrupt = first.run_to_interrupt(1);
+        assert_eq!(to_interrupt, Ok(ran(1, reason, references)), "{what}");
+        for other in [lent, run, first] {
             other.is(&plain, what);
         }
         plain
