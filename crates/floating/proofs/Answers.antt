@@ -13,9 +13,7 @@ use Rattle.floating.specs.Conversions.{short_numbers, long_told, short_told}
 use Rattle.floating.specs.declared.form.Short.{Short}
 use Rattle.floating.specs.declared.form.Long.{Long}
 use Rattle.floating.specs.declared.form.Fields.{Fields}
-use Rattle.floating.specs.declared.form.LongAnswer.{LongAnswer}
 use Rattle.floating.specs.declared.form.LongAnswer.TheVariants.{Converted as IsLong, Refused as LongRefused}
-use Rattle.floating.specs.declared.form.ShortAnswer.{ShortAnswer}
 use Rattle.floating.specs.declared.form.ShortAnswer.TheVariants.{Converted as IsShort, Refused as ShortRefused}
 
 -- ---- short to long, f being the fields of s
@@ -95,10 +93,3 @@ tell_short l = go (is_zero_long l) (malformed_long f) (beyond_match f) (loses_bi
     go false false true w = refl
     go false false false true = refl
     go false false false false = refl
-
--- what an entry point promises, by its answer
-pub long_told_law : (s : Short) (r : LongAnswer) → to_long s ≡ r → (r ≡ to_long s) × (long_numbers r ≡ long_told s)
-long_told_law s r e = (sym e, ap long_numbers (sym e) ∙ tell_long s)
-
-pub short_told_law : (l : Long) (r : ShortAnswer) → to_short l ≡ r → (r ≡ to_short l) × (short_numbers r ≡ short_told l)
-short_told_law l r e = (sym e, ap short_numbers (sym e) ∙ tell_short l)

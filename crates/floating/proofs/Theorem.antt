@@ -122,7 +122,8 @@ zero_same = record { value = refl; lengthens = refl; shortens = refl }
 
 -- ---- short to long and back
 
-module _ (s : Short) (w : ShortIsWords s) (z : is_zero_short s ≡ false) (h : malformed_short (short_fields s) ≡ false) where
+module _ (s : Short) (w : ShortIsWords s) (z : is_zero_short s ≡ false)
+    (h : malformed_short (short_fields s) ≡ false) where
   abbrev f : Fields
   f = short_fields s
 
@@ -150,7 +151,8 @@ shorts_kept s w l e =
 
 -- ---- long to short and back: the short number is an accepted one, and goes to the long one that it came from
 
-shortened_same : (l : Long) → LongIsWords l → Matched (long_fields l) → SameNumber (short_of (shortened (long_fields l))) l
+shortened_same : (l : Long) → LongIsWords l → Matched (long_fields l)
+    → SameNumber (short_of (shortened (long_fields l))) l
 shortened_same l w m =
     let g = long_fields l in
     let fits = shortened_fits g m in

@@ -36,6 +36,7 @@ const MATCH_FIRST: u16 = BIAS_GAP + 1;
 
 const MATCH_LAST: u16 = BIAS_GAP + SHORT_EXPONENT_MOST;
 
+#[tactic(auto, unfolding(crate::specs::Forms::is_zero_short))]
 fn is_zero_short(s: Short) -> bool
     ensures { result ≡ is_zero_short s }
 {
@@ -45,6 +46,7 @@ fn is_zero_short(s: Short) -> bool
     s.d == 0
 }
 
+#[tactic(auto, unfolding(crate::specs::Forms::is_zero_long))]
 fn is_zero_long(l: Long) -> bool
     ensures { result ≡ is_zero_long l }
 {
@@ -112,6 +114,7 @@ fn lengthen(f: Fields) -> Fields
     }
 }
 
+#[tactic(auto, using(crate::proofs::Fields::match_bounds))]
 fn shorten(f: Fields) -> Fields
     requires { beyond_match f ≡ false }
     ensures { result ≡ shortened f }
@@ -124,12 +127,14 @@ fn shorten(f: Fields) -> Fields
 }
 
 // Refusal 15, of either form.
+#[tactic(auto, unfolding(crate::specs::Conversions::malformed_short))]
 fn malformed_short(f: Fields) -> bool
     ensures { result ≡ malformed_short f }
 {
     f.exponent == 0
 }
 
+#[tactic(auto, unfolding(crate::specs::Conversions::malformed_long))]
 fn malformed_long(f: Fields) -> bool
     ensures { result ≡ malformed_long f }
 {
@@ -137,6 +142,7 @@ fn malformed_long(f: Fields) -> bool
 }
 
 // Refusal 16.
+#[tactic(auto, unfolding(crate::specs::Conversions::beyond_match))]
 fn beyond_match(f: Fields) -> bool
     ensures { result ≡ beyond_match f }
 {
@@ -147,6 +153,7 @@ fn beyond_match(f: Fields) -> bool
 }
 
 // Refusal 17.
+#[tactic(auto, unfolding(crate::specs::Conversions::loses_bits))]
 fn loses_bits(f: Fields) -> bool
     ensures { result ≡ loses_bits f }
 {
@@ -154,6 +161,7 @@ fn loses_bits(f: Fields) -> bool
 }
 
 // A short number as a long one. Refusal 15.
+#[tactic(auto, unfolding(crate::specs::Conversions::to_long, crate::specs::Conversions::long_told))]
 pub fn short_to_long(s: Short) -> LongAnswer
     ensures value { result ≡ to_long s }
     ensures result_value { long_numbers result ≡ long_told s }
@@ -169,6 +177,7 @@ pub fn short_to_long(s: Short) -> LongAnswer
 }
 
 // A long number as a short one. Refusals 15, 16 and 17, in this order.
+#[tactic(auto, using(crate::proofs::Fields::shortened_fits, crate::proofs::Fields::matched, crate::proofs::Fields::long_fits), unfolding(crate::specs::Conversions::to_short, crate::specs::Conversions::short_told))]
 pub fn long_to_short(l: Long) -> ShortAnswer
     ensures value { result ≡ to_short l }
     ensures result_value { short_numbers result ≡ short_told l }

@@ -1,15 +1,14 @@
 -- Numbers of references: added up through stages, steps and runs.
 -- Assumes nothing.
-use Rattle.std.proofs.Common.{◌≡◌, ℕ, zero, suc, ◌+◌, ◌%◌, ◌<◌, ◌≤◌, Bool, true, false, cond, not, ◌&&◌, eqb, List, [], ◌∷◌, length, sym, refl, ap, ◌∙◌, add_assoc, mod-lt, mod-eq_of_lt, zero-add, arith, lit<}
+use Rattle.std.proofs.Common.{◌≡◌, ℕ, zero, suc, ◌+◌, ◌%◌, ◌<◌, ◌≤◌, Bool, cond, not, ◌&&◌, eqb, List, [], ◌∷◌, length, sym, ap, ◌∙◌, add_assoc, mod-lt, mod-eq_of_lt, zero-add, arith, lit<}
 use native.Mathlib.Nat.{mod-add-mod, add-mod-mod}
 use Rattle.isa.specs.Pages.{Tested, translate, marked, passes, test_all}
 use Rattle.isa.specs.Step.{Part, Turn, counted, counted_turn, step, is_stopped, change_due}
-use Rattle.isa.specs.Run.{Run, ended, sum_range, counted_run, after_step, run_from}
+use Rattle.isa.specs.Run.{Run, ended, sum_range, counted_run, run_from}
 use Rattle.isa.specs.declared.machine.State.{State}
 use Rattle.isa.specs.declared.access.Access.{Access}
 use Rattle.isa.specs.declared.access.Rights.{Rights}
-use Rattle.isa.specs.declared.answer.Reason.{Reason}
-use Rattle.isa.specs.declared.answer.Reason.TheVariants.{Stopped, Level, Spent, Interrupt}
+use Rattle.isa.specs.declared.answer.Reason.TheVariants.{Interrupt}
 use Rattle.isa.proofs.Tests.{either}
 
 -- ---- accesses
@@ -74,7 +73,8 @@ counted_run_none r h =
     ap (numbered_run r) (ap (λ (n : ℕ). n % sum_range) (zero-add r.references) ∙ mod-eq_of_lt h)
 
 -- what a run answers has 64 bits
-pub run_sum_below : (first : Bool) (n k : ℕ) (s : State) (m t : List ℕ) → (run_from first n k s m t).references < sum_range
+pub run_sum_below : (first : Bool) (n k : ℕ) (s : State) (m t : List ℕ)
+    → (run_from first n k s m t).references < sum_range
 run_sum_below first n k s m t = by_steps n
   where
     Below : Run → Type 0

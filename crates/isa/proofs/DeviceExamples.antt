@@ -99,9 +99,10 @@ rings =
     ∷ []
 
 pub rings_hold : given rings ≡ stated rings
-unfolding file_at put_file adder with_overflow with_sum product_overflow division_fails left_once right_once by_code by_number
-    decode tra_of trr_of masked_of switch_of transfer_of srb_of lrb_of shift_of first_address divided within_memory judged
-    in_window translate marked lowered physical_place step interrupted faulted finished operands_tested operands
-    indirect_tested user_stage examined deposited transfer_stage device_stage ident_stage register_of line_of instruction_stage
-    fetched step_in put_other block_stored block_loaded far_stage settled change_due level_changed
+unfolding file_at put_file adder with_overflow with_sum product_overflow division_fails left_once right_once by_code
+    by_number decode tra_of trr_of masked_of switch_of transfer_of srb_of lrb_of shift_of first_address divided
+    within_memory judged in_window translate marked lowered physical_place step interrupted faulted finished
+    operands_tested operands indirect_tested user_stage examined deposited transfer_stage device_stage ident_stage
+    register_of line_of instruction_stage fetched step_in put_other block_stored block_loaded far_stage settled
+    change_due level_changed
 rings_hold = refl

@@ -261,9 +261,9 @@ reached page =
 -- all three tables, and the pages 5 and 0
 pub access_tables : (given accesses ≡ stated accesses) × (given first_faults ≡ stated first_faults)
     × (given extended_steps ≡ stated extended_steps) × (reached 5 ≡ true) × (reached 0 ≡ false)
-unfolding file_at put_file adder with_overflow with_sum product_overflow division_fails left_once right_once by_code by_number
-    decode tra_of trr_of masked_of switch_of transfer_of srb_of lrb_of shift_of first_address divided within_memory judged
-    in_window translate marked lowered physical_place step interrupted faulted finished operands_tested operands
-    indirect_tested user_stage examined deposited transfer_stage instruction_stage fetched step_in put_other block_stored
-    block_loaded far_stage settled change_due level_changed in_either
+unfolding file_at put_file adder with_overflow with_sum product_overflow division_fails left_once right_once by_code
+    by_number decode tra_of trr_of masked_of switch_of transfer_of srb_of lrb_of shift_of first_address divided
+    within_memory judged in_window translate marked lowered physical_place step interrupted faulted finished
+    operands_tested operands indirect_tested user_stage examined deposited transfer_stage instruction_stage fetched
+    step_in put_other block_stored block_loaded far_stage settled change_due level_changed in_either
 access_tables = (refl, refl, refl, refl, refl)

@@ -42,7 +42,7 @@ module _ (e f : Entry) (ring ring₀ page : ℕ) (h : MarksAlone e f) (l : ring 
       and_both (permits_later (and_left (permits e ring page) e.write q))
       (sym h.write ∙ and_right (permits e ring page) e.write q)
 
--- an entry of either_table table that passes a test
+-- an entry of either table that passes a test
 module _ (f : Entry → Bool) (form : Bool) (t : List ℕ) (a b : ℕ) where
   pub either_table : (table v : ℕ) → (table ≡ a) ⊎ (table ≡ b) → v < 64 → f (entry_at form t (table * 64 + v)) ≡ true
       → in_either f form t a b ≡ true
@@ -59,7 +59,8 @@ or_both : (x y u v : Bool) → (x ≡ true → u ≡ true) → (y ≡ true → v
 or_both true y u v f g h = or_left u v (f refl)
 or_both false y u v f g h = or_right u v (g h)
 
-some_both : (n : ℕ) (f g : ℕ → Bool) → ((v : ℕ) → f v ≡ true → g v ≡ true) → some_below n f ≡ true → some_below n g ≡ true
+some_both : (n : ℕ) (f g : ℕ → Bool) → ((v : ℕ) → f v ≡ true → g v ≡ true) → some_below n f ≡ true
+    → some_below n g ≡ true
 some_both zero f g h q = q
 some_both (suc n) f g h q = or_both (f n) (some_below n f) (g n) (some_below n g) (h n) (some_both n f g h) q
 

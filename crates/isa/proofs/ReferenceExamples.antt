@@ -25,7 +25,8 @@ on_ring1 w e = (paged w 0 e 0).references
 
 -- LDA on level 1, with these control words
 abbrev on_level1 : Control → ℕ
-on_level1 k = (step (state_with 1 k (replicate 128 0) (replicate 16 0)) (memory_of 0o044001 0) (tables_of 0 0)).references
+on_level1 k =
+    (step (state_with 1 k (replicate 128 0) (replicate 16 0)) (memory_of 0o044001 0) (tables_of 0 0)).references
 
 abbrev counts : List (ℕ × ℕ)
 counts =
@@ -69,8 +70,8 @@ counts =
     ∷ []
 
 pub counts_hold : given counts ≡ stated counts
-unfolding file_at put_file by_code by_number decode switch_of transfer_of srb_of lrb_of first_address within_memory judged
-    in_window translate lowered physical_place step finished operands_tested operands indirect_tested user_stage examined
-    deposited transfer_stage device_stage register_of instruction_stage fetched step_in block_stored block_loaded far_stage
-    settled change_due
+unfolding file_at put_file by_code by_number decode switch_of transfer_of srb_of lrb_of first_address within_memory
+    judged in_window translate lowered physical_place step finished operands_tested operands indirect_tested user_stage
+    examined deposited transfer_stage device_stage register_of instruction_stage fetched step_in block_stored
+    block_loaded far_stage settled change_due
 counts_hold = refl

@@ -53,7 +53,8 @@ run_taken first zero k s m t =
     before_taken (is_stopped s) (first && change_due s) 0 k s m t (ended Spent k s m t)
     (record { least = omega arith; most = omega arith; spent = λ q. omega arith })
 run_taken first (suc n) k s m t =
-    before_taken (is_stopped s) (first && change_due s) (suc n) k s m t (after_step first (run_from first n) k (step s m t))
+    before_taken (is_stopped s) (first && change_due s) (suc n) k s m t
+    (after_step first (run_from first n) k (step s m t))
     (after_taken first n k (run_from first n) (step s m t) (run_taken first n (suc k)))
 
 -- a stopped machine ends a run at once, whatever memory holds
@@ -149,7 +150,8 @@ before_onward rest false false k s m t q r h = h
 after_onward : (first : Bool) (a b k : ℕ) (r : Turn)
     → ((s : State) (m t : List ℕ)
     → run_from first (a + b) (suc k) s m t ≡ onward (run_from first b) (run_from first a (suc k) s m t))
-    → after_step first (run_from first (a + b)) k r ≡ onward (run_from first b) (after_step first (run_from first a) k r)
+    → after_step first (run_from first (a + b)) k r
+    ≡ onward (run_from first b) (after_step first (run_from first a) k r)
 after_onward first a b k r h =
     let x = first && not (eqb r.gave 0) in
     let q =

@@ -250,7 +250,8 @@ module _ (w : ℕ) (h : 0 < w) where
       ∙ ap (rotate_once w false) (by_sum i (negsuc n) v l)
 
   -- ---- n places to the left exchange a value's n upper bits, a, and its k lower bits, b
-  pub exchanged : (n k a b : ℕ) → w ≡ n + k → a < 2 ^ n → b < 2 ^ k → rotate_by w (pos n) (a * 2 ^ k + b) ≡ b * 2 ^ n + a
+  pub exchanged : (n k a b : ℕ) → w ≡ n + k → a < 2 ^ n → b < 2 ^ k
+      → rotate_by w (pos n) (a * 2 ^ k + b) ≡ b * 2 ^ n + a
   exchanged zero k a b e p q = subst (λ (x : ℕ). x * 2 ^ k + b ≡ b * 1 + x) (sym (lt-one p)) (omega arith)
   exchanged (suc n) k a b e p q =
       ap (λ (x : ℕ). rotate_by w (pos x) v) one_more

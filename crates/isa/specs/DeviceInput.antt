@@ -101,7 +101,8 @@ input_ran_call r = record {
 
 abbrev pub input_run_call_by : Answer → ℕ → List Given → State → List ℕ → List ℕ → InputRunCall
 input_run_call_by Done n gs s m t = input_ran_call (input_run_from n gs 0 s m t)
-input_run_call_by (Refused r) n gs s m t = record { answer = RunRefused r; told = []; state = s; memory = m; tables = t }
+input_run_call_by (Refused r) n gs s m t =
+    record { answer = RunRefused r; told = []; state = s; memory = m; tables = t }
 
 -- refusals 1 and 2, as of every run
 unfoldable pub input_run_call : ℕ → List Given → State → List ℕ → List ℕ → InputRunCall

@@ -80,7 +80,7 @@ ident_code = 1
 
 -- ---- asking
 
--- "enable interrupt if ready for transfer occurs". Ruling 33: "X asks" means that its flip_flop_law becomes 1 and the PID
+-- "enable interrupt if ready for transfer occurs". Ruling 33: "X asks" means that its flip-flop becomes 1 and the PID
 -- bit of its level is set, also if it asked already; it does when it is enabled and ready, its ready having just
 -- occurred or its control word having just been written.
 abbrev pub asking : ℕ → ℕ → Bool
@@ -242,7 +242,7 @@ flip_flop d InputLine = d.input.asks
 flip_flop d ClockLine = d.clock.asks
 flip_flop d NoLine = 0
 
--- document 000, 6.7.4: the device's interrupt flip_flop_law is cleared; ruling 33: by IDENT alone
+-- document 000, 6.7.4: the device's interrupt flip-flop is cleared; ruling 33: by IDENT alone
 abbrev pub without_asking : Devices → Line → Devices
 without_asking d OutputLine =
     with_output d
@@ -264,7 +264,7 @@ without_asking d InputLine =
 without_asking d ClockLine = with_clock d (record { enabled = d.clock.enabled; ready = d.clock.ready; asks = 0 })
 without_asking d NoLine = d
 
--- ruling 34: "A becomes 1, the flip_flop_law 0, nothing else"; ruling 35: IDENT leaves PID
+-- ruling 34: "A becomes 1, the flip-flop 0, nothing else"; ruling 35: IDENT leaves PID
 abbrev pub identified : Core → Line → Core
 identified c i =
     with_control (with_a c ident_code)

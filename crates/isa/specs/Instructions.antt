@@ -144,7 +144,7 @@ abbrev pub incremented : File → ℕ → Completed
 incremented f w = storing (skip_if (sum w 1 == 0) f) (sum w 1 ∷ [])
 
 -- A memory operation in the file f, of which P is one further, with its effective address a and the words read.
--- There is one for each access of memory_request, so no default 0 of `get_or` is taken.
+-- There is one for each access of memory_request, so no default 0 of `slice_index` is taken.
 abbrev pub memory_completion : MemoryOp → File → ℕ → List ℕ → Completed
 memory_completion Stz f a ws = storing f (0 ∷ [])
 memory_completion Sta f a ws = storing f (reg f A ∷ [])
@@ -153,7 +153,8 @@ memory_completion Stx f a ws = storing f (reg f X ∷ [])
 memory_completion Std f a ws = storing f (reg f A ∷ reg f D ∷ [])
 memory_completion Ldd f a ws = loads (with_reg (with_reg f A (slice_index ws 0)) D (slice_index ws 1))
 memory_completion Stf f a ws = storing f (reg f T ∷ reg f A ∷ reg f D ∷ [])
-memory_completion Ldf f a ws = loads (with_reg (with_reg (with_reg f T (slice_index ws 0)) A (slice_index ws 1)) D (slice_index ws 2))
+memory_completion Ldf f a ws =
+    loads (with_reg (with_reg (with_reg f T (slice_index ws 0)) A (slice_index ws 1)) D (slice_index ws 2))
 memory_completion Min f a ws = incremented f (slice_index ws 0)
 memory_completion Lda f a ws = loads (with_reg f A (slice_index ws 0))
 memory_completion Ldt f a ws = loads (with_reg f T (slice_index ws 0))

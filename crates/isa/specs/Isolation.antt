@@ -47,11 +47,12 @@ reachable s t page =
 
 abbrev pub writable : State → List ℕ → ℕ → Bool
 writable s t page =
-    let p = start_pcr s in permitted_writing (start_form s) t (normal_table_of p) (alternate_table_of p) (ring_of p) page
+    let p = start_pcr s in
+    permitted_writing (start_form s) t (normal_table_of p) (alternate_table_of p) (ring_of p) page
 
 -- "Both starts have equally much memory and are equal in .. each memory word outside the pages that no entry of the two
--- tables permits to the ring", the state and the tables being one. Past both memories' end k names no word, and `get_or`
--- gives 0 for both.
+-- tables permits to the ring", the state and the tables being one. Past both memories' end k names no word, and
+-- `slice_index` gives 0 for both.
 pub record AlikeStarts (s : State) (t m n : List ℕ) : Type 0 where
   pub size : length m ≡ length n
   pub same : (k : ℕ) → reachable s t (k / page_words) ≡ true → slice_index m k ≡ slice_index n k

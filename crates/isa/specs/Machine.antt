@@ -1,10 +1,10 @@
 -- Document 01, "The machine that is built".
 --
--- Here and in all modules, only so that definitions are total: a place past a list's end reads 0 (`get_or l i 0`) and is
--- not written (`set`, `paste`), and `a - b` is 0 where b is above a. By a state's type and range and the sizes of lent
--- words every place that the definitions name is there, and words are below 65,536. A cut to so many bits (`%`) that
--- the documents do not have is explained where it stands.
-use Rattle.std.specs.Prelude.{◌≡◌, ℕ, zero, suc, ◌+◌, ◌*◌, ◌/◌, ◌%◌, ◌^◌, ◌<◌, Bool, true, cond, ◌&&◌, List, [], ◌∷◌, ◌++◌, length, take, drop, set, ◌==◌, nat_le, nat_lt, slice_index, slice_set}
+-- Here and in all modules, only so that definitions are total: a place past a list's end reads 0 (`slice_index l i`)
+-- and is not written (`slice_set`, `paste`), and `a - b` is 0 where b is above a. By a state's type and range and the
+-- sizes of lent words every place that the definitions name is there, and words are below 65,536. A cut to so many bits
+-- (`%`) that the documents do not have is explained where it stands.
+use Rattle.std.specs.Prelude.{◌≡◌, ℕ, zero, suc, ◌+◌, ◌*◌, ◌/◌, ◌%◌, ◌^◌, ◌<◌, Bool, true, cond, ◌&&◌, List, [], ◌∷◌, ◌++◌, length, take, drop, ◌==◌, nat_le, nat_lt, slice_index, slice_set}
 use Rattle.std.proofs.Math.Seq.{paste}
 use Rattle.isa.specs.declared.machine.Register.{Register}
 use Rattle.isa.specs.declared.machine.Register.TheVariants.{Sts, D, P, B, L, A, T, X}
@@ -357,7 +357,7 @@ memory_size n = n % page_words == 0 && nat_le page_words n && nat_le n largest_m
 unfoldable pub sizes_fit : List ℕ → List ℕ → Bool
 sizes_fit m t = memory_size (length m) && length t == table_words
 
--- each number of a list is a word; past its end `get_or` gives 0, which is one
+-- each number of a list is a word; past its end `slice_index` gives 0, which is one
 abbrev pub Words : List ℕ → Type 0
 Words l = (i : ℕ) → slice_index l i < word_range
 

@@ -1,5 +1,5 @@
 -- Document 01, "Pages", and document 02, card 4: the two forms of an entry.
-use Rattle.std.specs.Prelude.{ℕ, suc, ◌+◌, ◌*◌, ◌/◌, ◌%◌, Bool, cond, not, ◌&&◌, ◌||◌, List, [], ◌∷◌, drop, set, ◌==◌, nat_le, nat_lt, slice_index, slice_set}
+use Rattle.std.specs.Prelude.{ℕ, suc, ◌+◌, ◌*◌, ◌/◌, ◌%◌, Bool, cond, not, ◌&&◌, ◌||◌, List, [], ◌∷◌, drop, ◌==◌, nat_le, nat_lt, slice_index, slice_set}
 use Rattle.isa.specs.Machine.{page_words, table_words, entries_in_table, slot_count, interrupt_protection}
 use Rattle.isa.specs.Machine.{interrupt_page_fault, interrupt_out_of_range, bit, reg, flag_ptm, ring_of, normal_table_of}
 use Rattle.isa.specs.Machine.{alternate_table_of, with_pcr}

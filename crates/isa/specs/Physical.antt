@@ -22,7 +22,8 @@ transfer_address f d = reg f T * word_range + reg f X + d
 -- address p, with so many words of memory. Ruling R3: on every ring, with no entry looked up.
 unfoldable pub physical_place : Bool → ℕ → AccessKind → ℕ → Translation
 physical_place form words k p =
-    cond (nat_le (window_start form) p && nat_lt p word_range) (in_tables k (p % window_words form)) (within_memory words k p)
+    cond (nat_le (window_start form) p && nat_lt p word_range) (in_tables k (p % window_words form))
+    (within_memory words k p)
 
 -- ---- ruling R1's table
 

@@ -8,7 +8,6 @@ use Rattle.isa.specs.Step.{Part, physical_address, privileged, instruction_of, a
 use Rattle.isa.specs.Step.{block_request, change_due, is_stopped, step}
 use Rattle.isa.specs.Run.{sum_range, run_from}
 use Rattle.isa.specs.DeviceInput.{Given, input_call, is_spent, input_run_from}
-use Rattle.isa.specs.declared.machine.Control.{Control}
 use Rattle.isa.specs.declared.machine.Core.{Core}
 use Rattle.isa.specs.declared.machine.File.{File}
 use Rattle.isa.specs.declared.machine.State.{State}

@@ -70,7 +70,7 @@ Joined =
     (w : ℕ) → 0 < w → (i j : ℤ) (s : Shifted) → s.value < 2 ^ w
     → rotated w (joined_count w i j) s ≡ rotated w j (rotated w i s)
 
--- the field of an instruction's count (Decode.countOf), -32 to 31
+-- the field of an instruction's count (Decode.count_of), -32 to 31
 abbrev pub InField : ℤ → Type 0
 InField n = (negsuc 31 ≤ℤ n) × (n ≤ℤ pos 31)
 

@@ -44,7 +44,8 @@ after_step first rest k r =
 -- more, after k; `first` is the second form, to the first interrupt.
 abbrev pub run_from : Bool → ℕ → ℕ → State → List ℕ → List ℕ → Run
 run_from first zero k s m t =
-    cond (is_stopped s) (ended Stopped k s m t) (cond (first && change_due s) (ended Level k s m t) (ended Spent k s m t))
+    cond (is_stopped s) (ended Stopped k s m t)
+    (cond (first && change_due s) (ended Level k s m t) (ended Spent k s m t))
 run_from first (suc n) k s m t =
     let on = after_step first (run_from first n) k (step s m t) in
     cond (is_stopped s) (ended Stopped k s m t) (cond (first && change_due s) (ended Level k s m t) on)

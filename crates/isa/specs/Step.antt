@@ -1,6 +1,6 @@
 -- Document 01, "One step": stages over the running level, each taking what the one before found, and their packing into
 -- a state.
-use Rattle.std.specs.Prelude.{ℕ, ◌+◌, ◌*◌, ◌%◌, Bool, true, false, cond, not, ◌&&◌, ◌||◌, List, [], ◌∷◌, length, set, ◌==◌, bit_and, nat_eq, nat_le, nat_lt, slice_index, slice_set}
+use Rattle.std.specs.Prelude.{ℕ, ◌+◌, ◌*◌, ◌%◌, Bool, true, false, cond, not, ◌&&◌, ◌||◌, List, [], ◌∷◌, length, ◌==◌, bit_and, nat_eq, nat_le, nat_lt, slice_index, slice_set}
 use Rattle.isa.specs.Machine.{word_range, level_count, file_size, status_range, internal_level, interrupt_mon}
 use Rattle.isa.specs.Machine.{interrupt_illegal, interrupt_error, interrupt_privileged, interrupt_iox, bit, with_bit}
 use Rattle.isa.specs.Machine.{number, reg, with_reg, next, next_core, core_of, with_core, with_file, with_control}
@@ -362,7 +362,8 @@ far_stage s n m t (Call w) = turn (put_register s internal_level T w) n m t
 far_stage s n m t (ReadRegister l r) = turn (put_register s s.level A (register_at s l r)) n m t
 far_stage s n m t (WriteRegister l r) = turn (put_other s l r (register_at s s.level A)) n m t
 far_stage s n m t ReadPcr = turn (put_register s s.level A (slice_index s.pcr (pcr_level s))) n m t
-far_stage s n m t WritePcr = turn (with_pcrs s (slice_set s.pcr (pcr_level s) (pcr_mask (register_at s s.level A)))) n m t
+far_stage s n m t WritePcr =
+    turn (with_pcrs s (slice_set s.pcr (pcr_level s) (pcr_mask (register_at s s.level A)))) n m t
 far_stage s n m t (StoreBlock l) = block_stored s l m (block_tested Write s m t)
 far_stage s n m t (LoadBlock l) = block_loaded s l m (block_tested Read s m t)
 

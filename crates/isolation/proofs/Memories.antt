@@ -73,7 +73,8 @@ module _ (form : Bool) (t₀ : List ℕ) (a b ρ : ℕ) where
   set_kept m p v h =
       record { size = length-set m p v; same = λ k f. get_or-set_other m p k v 0 (λ q. no_both (sym (rw q at f) ∙ h)) }
 
-  pub word_same : (m n t : List ℕ) (x : Translation) → Allowed form t₀ a b ρ x → Agree m n → word_at m t x ≡ word_at n t x
+  pub word_same : (m n t : List ℕ) (x : Translation) → Allowed form t₀ a b ρ x → Agree m n
+      → word_at m t x ≡ word_at n t x
   word_same m n t NoAccess h l = refl
   word_same m n t (Load p) h l = l.same p h
   word_same m n t (Store p) h l = refl

@@ -53,7 +53,8 @@ pair_alike form k p on = record {
         beyond n = omega arith
 
 pub pair_isolated : (form : Bool) (c : ℕ) (gs : List Given) (k : Control) (p : ℕ) → k.paging ≡ 1
-    → Isolated (pair_start form k p) (tables form) left right (input_run_call c gs (pair_start form k p) left (tables form))
+    → Isolated (pair_start form k p) (tables form) left right
+    (input_run_call c gs (pair_start form k p) left (tables form))
     (input_run_call c gs (pair_start form k p) right (tables form))
 pair_isolated form c gs k p on =
     isolation c gs (pair_start form k p) (tables form) left right (pair_alike form k p on)
@@ -68,4 +69,5 @@ pub pair_without_input : (form : Bool) (p : ℕ)
     → Isolated (pair_start form (quiet 1) p) (tables form) left right (without_input (run form p left))
     (without_input (run form p right))
 pair_without_input form p =
-    isolation_without_input 100 (pair_start form (quiet 1) p) (tables form) left right (pair_alike form (quiet 1) p refl)
+    isolation_without_input 100 (pair_start form (quiet 1) p) (tables form) left right
+    (pair_alike form (quiet 1) p refl)

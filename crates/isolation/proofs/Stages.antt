@@ -129,7 +129,8 @@ module _ (form : Bool) (t₀ : List ℕ) (a b ρ : ℕ) where
             alternate = lower_alternate c.pcr ring l ∙ h.alternate;
           }
 
-  fetch_held : (c : Core) (ring : ℕ) (x : Translation) → Held form t₀ a b ρ c → Held form t₀ a b ρ (after_fetch c ring x)
+  fetch_held : (c : Core) (ring : ℕ) (x : Translation) → Held form t₀ a b ρ c
+      → Held form t₀ a b ρ (after_fetch c ring x)
   fetch_held c ring NoAccess h = h
   fetch_held c ring (Load p) h = go (eqb c.control.paging 1)
     where

@@ -55,7 +55,8 @@ module _ (s : State) (t : List ℕ) where
 
   abbrev EvenFrom : List ℕ → List ℕ → InputRun → InputRun → Type 0
   EvenFrom m n r q =
-      let p = start_pcr s in EvenInputRun (start_form s) t (normal_table_of p) (alternate_table_of p) (ring_of p) m n r q
+      let p = start_pcr s in
+      EvenInputRun (start_form s) t (normal_table_of p) (alternate_table_of p) (ring_of p) m n r q
 
   -- a page that is not permitted is not permitted for writing
   foreign_unwritten : (page : ℕ) → reachable s t page ≡ false → writable s t page ≡ false
@@ -65,12 +66,14 @@ module _ (s : State) (t : List ℕ) where
       go true q =
           let p = start_pcr s in
           absurd
-          (no_both (sym f ∙ writing_permitted (start_form s) t (normal_table_of p) (alternate_table_of p) (ring_of p) page q))
+          (no_both (sym f ∙ writing_permitted (start_form s) t (normal_table_of p) (alternate_table_of p)
+          (ring_of p) page q))
       go false q = q
 
   -- from m and n to m' and n': a word of a foreign page is as it was in each, and of any other page is the same in both
   module _ (m n m' n' : List ℕ) (h : AgreeFrom m n) (e : MemoriesFrom m n m' n') where
-    both_kept : (k : ℕ) → reachable s t (k / 1024) ≡ false → (get_or m' k 0 ≡ get_or m k 0) × (get_or n' k 0 ≡ get_or n k 0)
+    both_kept : (k : ℕ) → reachable s t (k / 1024) ≡ false
+        → (get_or m' k 0 ≡ get_or m k 0) × (get_or n' k 0 ≡ get_or n k 0)
     both_kept k f =
         (e.left.same k (foreign_unwritten (k / 1024) f), e.right.same k (foreign_unwritten (k / 1024) f))
 
@@ -155,7 +158,8 @@ refused_alike c gs s t m n x h e = record { left = rw e; right = rw (← answer_
 
 -- ---- without device input: both at the empty list
 
-without_input_law : (c : ℕ) (s : State) (m t : List ℕ) → input_run_call c [] s m t ≡ without_input (run_call true c s m t)
+without_input_law : (c : ℕ) (s : State) (m t : List ℕ)
+    → input_run_call c [] s m t ≡ without_input (run_call true c s m t)
 unfolding input_run_call run_call
 without_input_law c s m t = go (state_answer s m t)
   where

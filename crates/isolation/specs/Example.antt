@@ -128,7 +128,8 @@ device_input =
     ∷ []
 
 abbrev pub run_with_input : Bool → ℕ → List ℕ → InputRunCall
-run_with_input form interrupts m = input_run_call 100 device_input (pair_start form (in_use interrupts) 0) m (tables form)
+run_with_input form interrupts m =
+    input_run_call 100 device_input (pair_start form (in_use interrupts) 0) m (tables form)
 
 -- What is looked at: steps, reason and references; what the inputs were told; PID; the devices' words; the message and
 -- the two foreign words.
@@ -174,11 +175,12 @@ pair_with_input form =
 
 pub pair_holds : (form : Bool)
     → (given (pair form) ≡ stated (pair form)) × (given (pair_with_input form) ≡ stated (pair_with_input form))
-unfolding pair pair_with_input run_call input_run_call state_answer sizes_fit in_range file_at put_file adder with_overflow with_sum
-    product_overflow division_fails left_once right_once by_code by_number decode tra_of trr_of masked_of switch_of transfer_of
-    srb_of lrb_of shift_of first_address divided within_memory judged in_window translate marked lowered step interrupted
-    faulted finished operands_tested operands indirect_tested user_stage examined deposited instruction_stage fetched step_in
-    put_other block_stored block_loaded far_stage settled change_due level_changed
+unfolding pair pair_with_input run_call input_run_call state_answer sizes_fit in_range file_at put_file adder
+    with_overflow with_sum product_overflow division_fails left_once right_once by_code by_number decode tra_of trr_of
+    masked_of switch_of transfer_of srb_of lrb_of shift_of first_address divided within_memory judged in_window
+    translate marked lowered step interrupted faulted finished operands_tested operands indirect_tested user_stage
+    examined deposited instruction_stage fetched step_in put_other block_stored block_loaded far_stage settled
+    change_due level_changed
 pair_holds true = (refl, refl)
 pair_holds false = (refl, refl)
 

@@ -27,7 +27,8 @@ input_as_operation s m t sizes range = record {
 }
 
 -- a run keeps the machine sound, and the sizes
-same_sizes : (m t n u : List ℕ) → length n ≡ length m → length u ≡ length t → sizes_fit m t ≡ true → sizes_fit n u ≡ true
+same_sizes : (m t n u : List ℕ) → length n ≡ length m → length u ≡ length t → sizes_fit m t ≡ true
+    → sizes_fit n u ≡ true
 unfolding sizes_fit
 same_sizes m t n u a b h = rw (a, b) h
 

@@ -101,7 +101,7 @@ ready_while_none_waits s m t l n h =
 
 -- ---- IDENT
 
--- the flip_flop_law that is cleared
+-- the flip-flop that is cleared
 cleared : (d : Devices) (i : Line) → flip_flop (without_asking d i) i ≡ 0
 cleared d OutputLine = refl
 cleared d InputLine = refl
@@ -132,7 +132,7 @@ module _ (n : ℕ) (s : State) (m t : List ℕ) (h : Executes (Ident n) s m t) w
   unfolding ident_stage
   trapped_step e = executed_step h ∙ rw (same_asks ∙ e)
 
-  -- the flip_flop_law after one that is answered, and the interrupt of one that is not
+  -- the flip-flop after one that is answered, and the interrupt of one that is not
   answered_clears : asks ≡ true → flip_flop (step s m t).state.devices (line_of n) ≡ 0
   unfolding settled far_stage
   answered_clears e =

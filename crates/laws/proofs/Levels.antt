@@ -82,4 +82,5 @@ unfolding step level_changed
 raised_level_runs s m t l runs on h =
     rw runs
     (decided (λ (r : Turn). r.state.level ≡ l) (change_due s) (λ e. highest_level_law (control_of s) l h)
-    (λ e. settled_level s (step_in s.level (core_of s) m t) ∙ sym (none_due s on e) ∙ highest_level_law (control_of s) l h))
+    (λ e. settled_level s (step_in s.level (core_of s) m t) ∙ sym (none_due s on e)
+    ∙ highest_level_law (control_of s) l h))

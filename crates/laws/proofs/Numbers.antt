@@ -138,7 +138,8 @@ run_tells first n s m t = go (state_answer s m t) ∙ state_tells s m t [] value
     go (Refused x) = refl
 
 -- one test more, by an answer
-one_more : (b : Bool) (x : Refusal) → answer_numbers (cond b (Refused x) Done) ≡ tells_by ((b, refusal_number x) ∷ []) []
+one_more : (b : Bool) (x : Refusal)
+    → answer_numbers (cond b (Refused x) Done) ≡ tells_by ((b, refusal_number x) ∷ []) []
 one_more true x = refl
 one_more false x = refl
 

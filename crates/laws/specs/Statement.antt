@@ -274,7 +274,7 @@ ReadyWhileNoneWaits =
 
 -- ---- "interrupt 7 stays .. for an IDENT that no device answers"
 
--- rulings 34 and 35: an IDENT that is answered gives A the code 1, clears the flip_flop_law and leaves PID
+-- rulings 34 and 35: an IDENT that is answered gives A the code 1, clears the flip-flop and leaves PID
 pub record Identified (n : ℕ) (s : State) (r : Turn) : Type 0 where
   pub code : register_at r.state s.level A ≡ ident_code
   pub flip_flop_law : flip_flop r.state.devices (line_of n) ≡ 0

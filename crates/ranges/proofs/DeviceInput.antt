@@ -116,7 +116,9 @@ input_of_fits w =
     either CharacterFits (eqb w tick_word) {x = Tick} tt
     (either CharacterFits (eqb w read_out_word) {x = ReadOut} tt
     (decided CharacterFits (leb typed_word w && ltb w (typed_word + character_range)) {y = Raise w}
-    (λ e. let below = ltb-true w (typed_word + character_range) (and_right (leb typed_word w) _ e) in omega (arith, below))
+    (λ e.
+    let below = ltb-true w (typed_word + character_range) (and_right (leb typed_word w) _ e) in
+    omega (arith, below))
     (λ e. tt)))
 
 pub given_fits : (steps ws : List ℕ) → EachInput CharacterFits (given_of steps ws)

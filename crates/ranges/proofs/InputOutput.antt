@@ -36,7 +36,7 @@ use Rattle.ranges.proofs.Control.{ControlFits, CoreFits, devices_fit, file_fits,
 
 -- ---- a device that asks
 
--- a flip_flop_law, and PID with the bit of a level
+-- a flip-flop, and PID with the bit of a level
 flip_flop_fits : (now : Bool) {v : ℕ} → v < 2 → flip_flop_after now v < 2
 flip_flop_fits now h = either (λ (v : ℕ). v < 2) now (omega arith) h
 

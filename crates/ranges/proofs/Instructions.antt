@@ -113,12 +113,16 @@ memory_completes Stf {f} h a ws p w =
 memory_completes Ldf h a ws p w =
     loads_completes (with_word (with_word (with_word h T refl (w 0)) A refl (w 1)) D refl (w 2))
 memory_completes Min h a ws p w =
-    record { file = skip_fits h (eqb (sum (get_or ws 0 0) 1) 0); stores = one_word (sum (get_or ws 0 0) 1) (omega arith) }
+    record {
+      file = skip_fits h (eqb (sum (get_or ws 0 0) 1) 0);
+      stores = one_word (sum (get_or ws 0 0) 1) (omega arith);
+    }
 memory_completes Lda h a ws p w = loads_completes (with_word h A refl (w 0))
 memory_completes Ldt h a ws p w = loads_completes (with_word h T refl (w 0))
 memory_completes Ldx h a ws p w = loads_completes (with_word h X refl (w 0))
 memory_completes Add h a ws p w = loads_completes (add_fits h _ 0 (w 0) (omega arith))
-memory_completes Sub h a ws p w = loads_completes (add_fits h (complement (get_or ws 0 0)) 1 (omega arith) (omega arith))
+memory_completes Sub h a ws p w =
+    loads_completes (add_fits h (complement (get_or ws 0 0)) 1 (omega arith) (omega arith))
 memory_completes And h a ws p w = loads_completes (with_word h A refl (and_lt 16 _ _ (reg_word h A) (w 0)))
 memory_completes Ora h a ws p w = loads_completes (with_word h A refl (or_lt 16 _ _ (reg_word h A) (w 0)))
 memory_completes Mpy h a ws p w = loads_completes (multiply_fits h (get_or ws 0 0))

@@ -28,7 +28,8 @@ zeros_words (suc n) = cons_words 0 (replicate n 0) (omega arith) (zeros_words n)
 
 -- a cleared machine with memory of any size is sound, so the laws below speak of some machines
 pub cleared_sound : (n : ℕ)
-    → Sound (state_of (replicate register_words 0) (replicate control_count 0) (replicate device_count 0)) (replicate n 0)
+    → Sound (state_of (replicate register_words 0) (replicate control_count 0) (replicate device_count 0))
+    (replicate n 0)
     (replicate table_words 0)
 unfolding in_range
 cleared_sound n = record {

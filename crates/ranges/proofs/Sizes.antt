@@ -103,7 +103,8 @@ module _ (j k : ℕ) where
   unfolding operands
   operands_size c m t u i h =
       let xs = request u c.file i in
-      operands_tested_size c m u i (test_all t (length m) (rights_of c) xs) (tested_size xs m t (length m) (rights_of c) h)
+      operands_tested_size c m u i (test_all t (length m) (rights_of c) xs)
+      (tested_size xs m t (length m) (rights_of c) h)
 
   -- the access for its indirect word tested
   indirect_tested_size : (c : Core) (m : List ℕ) (u : User) (r : Tested) → Sized j k m r.tables
@@ -118,7 +119,8 @@ module _ (j k : ℕ) where
   unfolding user_stage
   user_size c m t u h =
       let xs = indirect_request u c.file in
-      indirect_tested_size c m u (test_all t (length m) (rights_of c) xs) (tested_size xs m t (length m) (rights_of c) h)
+      indirect_tested_size c m u (test_all t (length m) (rights_of c) xs)
+      (tested_size xs m t (length m) (rights_of c) h)
 
   -- LDATX to STDTX
   transfer_size : (c : Core) (m t : List ℕ) (o : Transfer) (d : ℕ) → Sized j k m t

@@ -1,4 +1,4 @@
--- A state in range, part by part; it is what the types and the test `inRange` say together.
+-- A state in range, part by part; it is what the types and the test `in_range` say together.
 -- Assumes nothing.
 use Rattle.isa.specs.Machine.{level_count, register_words, control_of}
 use Prim.Native.Nat.{ℕ, zero, suc, ◌*◌, ◌/◌, ◌%◌, ◌<◌, ◌≤◌}
@@ -120,7 +120,8 @@ state_fits s t h =
       level = ltb-true s.level 16 q.0;
       regs_length = t.regs_length;
       regs = regs_each s.regs t.regs_length t.regs_words q.3;
-      control = control_range (control_of s) q.1 (t.control_words_law 4) (t.control_words_law 5) (t.control_words_law 9);
+      control =
+          control_range (control_of s) q.1 (t.control_words_law 4) (t.control_words_law 5) (t.control_words_law 9);
       pcr_length = t.pcr_length;
       pcr = pcrs_each s.pcr q.2;
     }

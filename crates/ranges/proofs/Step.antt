@@ -107,7 +107,8 @@ operands_fit : {c : Core} → CoreFits c → (m t : List ℕ) (u : User) (i : �
 unfolding operands
 operands_fit {c} h m t u i n k =
     let xs = request u c.file i in
-    operands_tested_fit h m u i (test_all t (length m) (rights_of c) xs) n (tested_fits xs m t (length m) (rights_of c) k)
+    operands_tested_fit h m u i (test_all t (length m) (rights_of c) xs) n
+    (tested_fits xs m t (length m) (rights_of c) k)
     (tested_fault xs t (length m) (rights_fit c))
 
 -- the access for its indirect word tested
