@@ -33,9 +33,6 @@ module _ (k n v w b : ℕ) (h : n < k) (l : v < 2) (e : b ≡ bit n w) where
   taken : (b * 2 ^ n) % 2 ^ k ≡ bit n w * 2 ^ n
   taken = ap (λ (x : ℕ). (x * 2 ^ n) % 2 ^ k) e ∙ placed (bit n w) n k (mod-lt (w / 2 ^ n) (lit< tt)) h
 
-  pub taken_below : (b * 2 ^ n) % 2 ^ k ≤ w
-  taken_below = omega (arith, taken, parts n w)
-
   pub changed : w - (b * 2 ^ n) % 2 ^ k + (v * 2 ^ n) % 2 ^ k ≡ with_bit n v w
   changed = omega (arith, taken, parts n w, placed v n k l h)
 
@@ -80,9 +77,6 @@ module _ (w : ℕ) (l : w < 65536) (h : w ≡ 0 → ⊥) where
 
   lowest : (m : ℕ) → 2 ^ suc m ≤ 2 * w + 1 → 2 ^ m ≤ w
   lowest m q = omega (arith, q, pow-suc 2 m)
-
-  pub zeros_below : count_leading_zeros 16 w ≤ 15
-  zeros_below = omega (arith, zeros, some size (leading_length 16 w l).2)
 
   pub highest_length : 15 - count_leading_zeros 16 w ≡ highest_in 15 w
   highest_length =

@@ -1,6 +1,6 @@
 -- Single shifts as they are computed, for any width of 1 to 32 bits.
 -- Assumes nothing.
-use Rattle.std.proofs.Common.{◌≡◌, ℕ, ◌+◌, ◌-◌, ◌*◌, ◌/◌, ◌%◌, ◌^◌, ◌<◌, ◌≤◌, Bool, true, false, sym, ap, ◌∙◌, subst, one-mul, arith, lit<, pow_pos, pow_mono}
+use Rattle.std.proofs.Common.{◌≡◌, ℕ, ◌+◌, ◌-◌, ◌*◌, ◌/◌, ◌%◌, ◌^◌, ◌<◌, ◌≤◌, Bool, true, false, sym, ap, ◌∙◌, subst, one-mul, arith, lit<, pow_mono}
 use Rattle.isa.specs.Flags.{lower_input, upper_input, left_once, right_once, once}
 use Rattle.isa.specs.Flags as Flags
 use Rattle.isa.specs.declared.instruction.ShiftKind.{ShiftKind}
@@ -16,9 +16,6 @@ half w = (1 * 2 ^ (w - 1)) % 4294967296
 pub half_is : (w : ℕ) → 0 < w → w ≤ 32 → half w ≡ 2 ^ (w - 1)
 half_is w p q = placed 1 (w - 1) 32 (lit< tt) (omega arith) ∙ one-mul (2 ^ (w - 1))
 
-pub half_some : (w : ℕ) (s : Shifted) → InWidth w s → 0 < half w
-half_some w s g = subst (λ (x : ℕ). 0 < x) (sym (half_is w g.some g.most)) (pow_pos (w - 1))
-
 -- one place in a direction stays in the width, and so in 32 bits
 module _ (left : Bool) (w : ℕ) (k : ShiftKind) (s : Shifted) (g : InWidth w s) where
   stays : Narrow w (once left w k (shifted_of s))
@@ -33,11 +30,6 @@ module _ (left : Bool) (w : ℕ) (k : ShiftKind) (s : Shifted) (g : InWidth w s)
   once_fits r e = omega (arith, ap (λ (t : Flags.Shifted). t.value) e, stays.value, pow_mono g.most)
 
 module _ (w : ℕ) (k : ShiftKind) (s : Shifted) (g : InWidth w s) where
-  -- the bit that leaves at the upper end
-  pub top_bit : s.value / half w < 2
-  unfolding left_once
-  top_bit = subst (λ (x : ℕ). s.value / x < 2) (sym (half_is w g.some g.most)) (stays true w k s g).m
-
   pub left_is :
       (x : ℕ) → x ≡ lower_input k (s.value / half w) s.m
       → ◌≡◌ {A = Flags.Shifted} (record { value = s.value % half w * 2 + x; m = s.value / half w })

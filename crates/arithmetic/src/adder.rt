@@ -51,6 +51,7 @@ pub fn add(a: u16, b: u16, c: u16) -> Sum
 }
 
 // STS after an operation with the overflow o: overflow sets O and Q, without it O is 0 and Q stays.
+#[tactic(auto, unfolding(isa::specs::Flags::with_overflow))]
 pub fn with_overflow(o: u16, sts: u16) -> u16
     ensures { result ≡ with_overflow o sts }
 {
@@ -61,6 +62,7 @@ pub fn with_overflow(o: u16, sts: u16) -> u16
 }
 
 // STS after an addition.
+#[tactic(auto, unfolding(isa::specs::Flags::with_sum))]
 pub fn with_sum(s: Sum, sts: u16) -> u16
     requires { s.carry < 2 }
     ensures { result ≡ with_sum (record { value = s.value; carry = s.carry; overflow = s.overflow }) sts }

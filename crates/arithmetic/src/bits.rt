@@ -21,6 +21,7 @@ pub fn with_bit(n: u16, v: u16, w: u16) -> u16
 }
 
 // The highest bit of w that is set, among bits 15 to 1; 0 if none is.
+#[tactic(auto, using(crate::proofs::Fields::highest_length))]
 pub fn highest(w: u16) -> u16
     ensures value { result ≡ highest_in 15 w }
     ensures upper_bound { result < 16 }

@@ -26,6 +26,7 @@ fn exceeds(z: i64) -> u16
     whole::outside(z, -32767, 32767)
 }
 
+#[tactic(auto, unfolding(isa::specs::Flags::product_overflow))]
 pub fn multiply(a: u16, b: u16) -> Product
     ensures value { result.value ≡ bits_of 16 (product a b) }
     ensures overflow { result.overflow ≡ product_overflow a b }

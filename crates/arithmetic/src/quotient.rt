@@ -33,6 +33,7 @@ fn signed_division(n: u32, d: u16) -> Whole
     }
 }
 
+#[tactic(auto, using(crate::proofs::Divisions::by_zero, crate::proofs::Divisions::fails, crate::proofs::Divisions::gives))]
 pub fn divide(n: u32, d: u16) -> Division
     ensures { result ≡ division_of n d }
 {

@@ -38,6 +38,7 @@ fn upper_input(k: ShiftKind, top: u16, low: u16, m: u16) -> u16
 }
 
 // One place in w bits: to the left the top bit leaves, to the right the lowest.
+#[tactic(auto, using(crate::proofs::Places::left_is, crate::proofs::Places::left_fits, crate::proofs::Places::right_is, crate::proofs::Places::right_fits))]
 fn once(left: bool, w: u32, k: ShiftKind, s: Shifted) -> Shifted
     requires { InWidth w s }
     ensures { shifted_of result ≡ once left w k (shifted_of s) }

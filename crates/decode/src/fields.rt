@@ -7,6 +7,7 @@ use isa::instruction::{Argument, BitOp, Condition, Mode, ShiftKind, Shiftable};
 use isa::machine::Register;
 
 // The address mode, bits 10-8.
+#[tactic(auto, unfolding(isa::specs::Decode::by_number))]
 pub fn mode_of(w: u16) -> Mode
     ensures { result ≡ mode_of w }
 {
@@ -23,6 +24,7 @@ pub fn mode_of(w: u16) -> Mode
 }
 
 // A register by its number.
+#[tactic(auto, unfolding(isa::specs::Decode::by_number))]
 pub fn register_of(n: u16) -> Register
     ensures { result ≡ register_of n }
 {
@@ -74,6 +76,7 @@ pub fn cm1_of(w: u16) -> bool
 }
 
 // The condition of a jump, bits 10-8.
+#[tactic(auto, unfolding(isa::specs::Decode::by_number))]
 pub fn condition_of(w: u16) -> Condition
     ensures { result ≡ condition_of w }
 {
@@ -90,6 +93,7 @@ pub fn condition_of(w: u16) -> Condition
 }
 
 // The register of an argument instruction, bits 9-8.
+#[tactic(auto, unfolding(isa::specs::Decode::by_number))]
 pub fn argument_of(w: u16) -> Argument
     ensures { result ≡ argument_of w }
 {
@@ -102,6 +106,7 @@ pub fn argument_of(w: u16) -> Argument
 }
 
 // The register of a shift, bits 8-7.
+#[tactic(auto, unfolding(isa::specs::Decode::by_number))]
 pub fn shiftable_of(w: u16) -> Shiftable
     ensures { result ≡ shiftable_of w }
 {
@@ -114,6 +119,7 @@ pub fn shiftable_of(w: u16) -> Shiftable
 }
 
 // The kind of a shift, bits 10-9.
+#[tactic(auto, unfolding(isa::specs::Decode::by_number))]
 pub fn kind_of(w: u16) -> ShiftKind
     ensures { result ≡ kind_of w }
 {
@@ -126,6 +132,7 @@ pub fn kind_of(w: u16) -> ShiftKind
 }
 
 // The bit operation, bits 10-7.
+#[tactic(auto, unfolding(isa::specs::Decode::by_number))]
 pub fn bit_op_of(w: u16) -> BitOp
     ensures { result ≡ bit_op_of w }
 {

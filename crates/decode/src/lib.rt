@@ -112,6 +112,7 @@ pub enum Exr {
     Other,
 }
 
+#[tactic(auto, using(crate::proofs::ExrRow::exr, crate::proofs::ExrRow::not_exr))]
 pub fn exr_of(w: u16) -> Exr
     ensures { result ≡ exr_of (decode w) }
 {

@@ -24,6 +24,7 @@ fn tra(r: Readable) -> Instruction
 }
 
 // TRA: the internal register that is read.
+#[tactic(auto, unfolding(isa::specs::Decode::by_code, isa::specs::Decode::tra_of))]
 pub fn tra_of(w: u16) -> Instruction
     ensures { result ≡ tra_of (w % 64) }
 {
@@ -48,6 +49,7 @@ fn trr(r: Writable) -> Instruction
 }
 
 // TRR: the internal register that is written.
+#[tactic(auto, unfolding(isa::specs::Decode::by_code, isa::specs::Decode::trr_of))]
 pub fn trr_of(w: u16) -> Instruction
     ensures { result ≡ trr_of (w % 64) }
 {
@@ -72,6 +74,7 @@ fn masked(set: bool, r: Maskable) -> Instruction
 }
 
 // MST or MCL: the internal register whose bits are set or cleared.
+#[tactic(auto, unfolding(isa::specs::Decode::by_code, isa::specs::Decode::masked_of))]
 pub fn masked_of(set: bool, w: u16) -> Instruction
     ensures { result ≡ masked_of (cond set Mst Mcl) (w % 64) }
 {
@@ -84,6 +87,7 @@ pub fn masked_of(set: bool, w: u16) -> Instruction
 }
 
 // 150400 to 150477: the switches, SEX, REX, IOXT, EXAM and DEPO.
+#[tactic(auto, unfolding(isa::specs::Decode::by_code, isa::specs::Decode::switch_of))]
 pub fn switch_of(w: u16) -> Instruction
     ensures { result ≡ switch_of (w % 64) }
 {
@@ -111,6 +115,7 @@ fn physical(o: Transfer, w: u16) -> Instruction
 }
 
 // LDATX to STDTX, by the low three bits.
+#[tactic(auto, unfolding(isa::specs::Decode::by_code, isa::specs::Decode::transfer_of))]
 pub fn transfer_of(w: u16) -> Instruction
     ensures { result ≡ transfer_of w }
 {
@@ -127,6 +132,7 @@ pub fn transfer_of(w: u16) -> Instruction
 }
 
 // SRB, by the low three bits.
+#[tactic(auto, unfolding(isa::specs::Decode::srb_of))]
 pub fn srb_of(w: u16) -> Instruction
     ensures { result ≡ srb_of w }
 {
@@ -137,6 +143,7 @@ pub fn srb_of(w: u16) -> Instruction
 }
 
 // LRB, by the low three bits.
+#[tactic(auto, unfolding(isa::specs::Decode::lrb_of))]
 pub fn lrb_of(w: u16) -> Instruction
     ensures { result ≡ lrb_of w }
 {

@@ -80,6 +80,7 @@ fn shift(w: u16) -> Instruction
 }
 
 // A shift word with bit 6 set is illegal.
+#[tactic(auto, unfolding(isa::specs::Decode::shift_of))]
 pub fn shift_of(w: u16) -> Instruction
     ensures { result ≡ shift_of w }
 {

@@ -1,6 +1,6 @@
 -- Laws of blocks: tests one after the other, the addresses by fours and twos, and that writes are stored.
 -- Assumes nothing.
-use Rattle.std.proofs.Common.{◌≡◌, ℕ, ◌+◌, ◌≤◌, Bool, true, false, not, ltb, List, [], ◌∷◌, ◌++◌, length, sym, refl, ap, ◌∙◌, suc-add, zero-add, arith}
+use Rattle.std.proofs.Common.{◌≡◌, ℕ, ◌+◌, Bool, true, false, not, ltb, List, [], ◌∷◌, ◌++◌, sym, refl, ap, ◌∙◌, suc-add, zero-add, arith}
 use Rattle.isa.specs.Address.{access, sum}
 use Rattle.isa.specs.Pages.{Entry, entry_at, slot_of, table_of, some_permit, needed, ring_allows, physical, within_memory}
 use Rattle.isa.specs.Pages.{judged, in_window, translate, passes, marked, Tested, also_at, test_all}
@@ -11,7 +11,6 @@ use Rattle.isa.specs.declared.access.AccessKind.TheVariants.{Write}
 use Rattle.isa.specs.declared.access.Rights.{Rights}
 use Rattle.isa.specs.declared.machine.Register.{Register}
 use Rattle.isa.specs.declared.access.Translation.{Translation}
-use Rattle.isa.proofs.Counts.{made_most}
 use Rattle.isa.proofs.Tests.{either, no_both}
 use Rattle.paging.specs.Within.{AllWithin}
 use Rattle.paging.specs.Outcome.{Outcome}
@@ -83,11 +82,6 @@ module _ (words : ℕ) (r : Rights) (ys : List Access) where
           count = rw e o.count;
           within = all_within words ps ps o.within o.within;
         }
-
--- no more are made than there are
-pub few : {t : List ℕ} {words : ℕ} {r : Rights} {xs : List Access} {ps : List Translation} {f : Translation} {k : ℕ}
-    {u : List ℕ} → Outcome t words r [] xs ps f k u → k ≤ length xs
-few {t} {words} {r} {xs} o = omega (arith, o.count, made_most t words r xs)
 
 -- ---- the addresses of a block, by halves
 

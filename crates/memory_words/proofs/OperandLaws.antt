@@ -1,6 +1,6 @@
 -- An access by its address, places within memory, and stores one place further.
 -- Assumes nothing.
-use Rattle.std.proofs.Common.{◌≡◌, ℕ, Bool, List, [], ◌∷◌, ◌++◌, set, refl, subst}
+use Rattle.std.proofs.Common.{◌≡◌, ℕ, Bool, List, [], ◌∷◌, ◌++◌, set, refl}
 use Rattle.isa.specs.Pages.{translate, marked, fault_of, store_all}
 use Rattle.isa.specs.Address.{access}
 use Rattle.isa.specs.declared.access.AccessKind.{AccessKind}
@@ -8,10 +8,7 @@ use Rattle.isa.specs.declared.access.Rights.{Rights}
 use Rattle.isa.specs.declared.access.Translation.{Translation}
 use Rattle.isa.specs.declared.access.Translation.TheVariants.{NoAccess, Load, Store, LoadTable, StoreTable}
 use Rattle.isa.specs.declared.access.Translation.TheVariants.{Protection, PageFault, OutOfRange}
-use Rattle.paging.specs.Within.{AllWithin}
 use Rattle.paging.proofs.Outcomes.{Found, found_by}
-use Rattle.memory_words.specs.Accesses.{places_of}
-use Rattle.memory_words.specs.declared.outcome.Places.{Places}
 
 -- what the code found of an access at the address b, which is a
 pub found_at :
@@ -21,11 +18,9 @@ pub found_at :
     → Found t words r (access k alternate a) y n v
 found_at e h q = rw (← e) (found_by h q)
 
-pub within_of : (words : ℕ) {p q : Places} → p ≡ q → AllWithin words (places_of p) → AllWithin words (places_of q)
-within_of words e h = subst (λ (p : Places). AllWithin words (places_of p)) e h
-
 -- a word that is not there is stored as 0
-pub padded : (m t : List ℕ) (xs : List Translation) (ws : List ℕ) → store_all m t xs (ws ++ 0 ∷ []) ≡ store_all m t xs ws
+pub padded : (m t : List ℕ) (xs : List Translation) (ws : List ℕ)
+    → store_all m t xs (ws ++ 0 ∷ []) ≡ store_all m t xs ws
 padded m t [] ws = refl
 padded m t (NoAccess ∷ xs) ws = padded m t xs ws
 padded m t (Load p ∷ xs) ws = padded m t xs ws

@@ -9,7 +9,7 @@ use mathlib.Core.List.{List}
 use lib.ListN.{get_or}
 use lib.Dec.{ltb, eqb}
 use borrow.Author.Tests.{ltb-true, eq-eqb, ne_eqb}
-use Rattle.isa.specs.Machine.{table_words, bit}
+use Rattle.isa.specs.Machine.{table_words}
 use Rattle.isa.specs.Pages.{Entry, entry_of, entry_at, first_word, slot_of, some_permit, needed, ring_allows, physical}
 use Rattle.isa.specs.Pages.{paging_status, in_memory, in_tables, within_memory, judged, table_of, window_words, in_window}
 use Rattle.isa.specs.Pages.{translate, passes, with_mark, marked}
@@ -23,10 +23,6 @@ use Rattle.paging.specs.Within.{Within}
 
 -- ---- permits
 
--- bit 0 is the remainder by 2
-pub lowest : (w : ℕ) → bit 0 w ≡ w % 2
-lowest w = omega arith
-
 -- bits 14 and 13 at once, and bits 15 to 13
 both_zero : (e : ℕ) → (e / 16384 % 2 ≡ 1 → ⊥) → (e / 8192 % 2 ≡ 1 → ⊥) → e / 8192 % 4 ≡ 0
 both_zero e p q = go (e / 8192) (e / 16384) (omega arith) p q
@@ -39,15 +35,6 @@ all_zero e l p h = go (e / 8192) (e / 32768) (omega arith) (omega arith) p h
   where
     go : (u v : ℕ) → v ≡ u / 4 → u < 8 → (v % 2 ≡ 1 → ⊥) → u % 4 ≡ 0 → u ≡ 0
     go u v h k x y = omega arith
-
-pub read_or_fetch : (e : ℕ) → not (eqb (e / 8192 % 4) 0) ≡ ((entry_of e 0).read || (entry_of e 0).fetch)
-read_or_fetch e = go (ℕ_discrete (e / 16384 % 2) 1) (ℕ_discrete (e / 8192 % 2) 1)
-  where
-    go : Dec (e / 16384 % 2 ≡ 1) → Dec (e / 8192 % 2 ≡ 1)
-        → not (eqb (e / 8192 % 4) 0) ≡ ((entry_of e 0).read || (entry_of e 0).fetch)
-    go (yes p) d = simp (eq-eqb _ _ p, ne_eqb (e / 8192 % 4) 0 (λ q. omega (arith, p, q)))
-    go (no p) (yes q) = simp (ne_eqb _ _ p, eq-eqb _ _ q, ne_eqb (e / 8192 % 4) 0 (λ z. omega (arith, q, z)))
-    go (no p) (no q) = simp (ne_eqb _ _ p, ne_eqb _ _ q, eq-eqb (e / 8192 % 4) 0 (both_zero e p q))
 
 pub any_permit : (e : ℕ) → e < 65536 → not (eqb (e / 8192) 0) ≡ some_permit (entry_of e 0)
 any_permit e l = go (ℕ_discrete (e / 32768 % 2) 1) (ℕ_discrete (e / 16384 % 2) 1) (ℕ_discrete (e / 8192 % 2) 1)
@@ -82,7 +69,8 @@ needed_some e Indirect h = go e.write
     go false = h
 
 -- the entry of the word at the place i and of the page p, which are those of a slot
-pub entry_by : (form : Bool) (t : List ℕ) (slot : ℕ) {i p : ℕ} → i ≡ first_word form slot → p ≡ (entry_at form t slot).page
+pub entry_by : (form : Bool) (t : List ℕ) (slot : ℕ) {i p : ℕ} → i ≡ first_word form slot
+    → p ≡ (entry_at form t slot).page
     → entry_of (get_or t i 0) p ≡ entry_at form t slot
 entry_by form t slot at named = λ j. entry_of (get_or t (at j) 0) (named j)
 
@@ -108,16 +96,6 @@ module _ (e : Entry) (slot words ring : ℕ) (k : AccessKind) (a : ℕ) where
       pub judged_beyond : ltb (physical e a) words ≡ false → judged e slot words ring k a ≡ OutOfRange
       unfolding judged within_memory
       judged_beyond w = simp (needed_some e k n, n, r, w)
-
-pub memory_passes : (k : AccessKind) (p : ℕ) → passes (in_memory k p) ≡ true
-memory_passes Fetch p = refl
-memory_passes Read p = refl
-memory_passes Write p = refl
-memory_passes Indirect p = refl
-
-pub refused_fails : (b : Bool) (g : ℕ) → passes (cond b (PageFault g) (Protection g)) ≡ false
-refused_fails true g = refl
-refused_fails false g = refl
 
 -- ---- the three ways of an access: the window, the tables, and paging off
 

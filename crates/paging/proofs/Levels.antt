@@ -3,16 +3,9 @@
 use Prim.Native.Nat.{ℕ, ◌<◌}
 use native.Mathlib.Omega.{arith}
 use mathlib.Core.Path.{◌≡◌}
-use lib.Dec.{eqb}
-use Rattle.isa.specs.Machine.{bit, flag_ptm, ring_of, normal_table_of, alternate_table_of}
+use Rattle.isa.specs.Machine.{ring_of, normal_table_of, alternate_table_of}
 use Rattle.isa.specs.Pages.{lowered_pcr}
-use Rattle.isa.specs.declared.access.Rights.{Rights}
-use Rattle.isa.proofs.Tests.{either}
-use Rattle.paging.specs.Levels.{level_rights, by_flags, on_ring}
-
-pub flags_below : (r : Rights) (sts : ℕ) → (r.normal < 4) × (r.alternate < 4)
-    → ((by_flags r sts).normal < 4) × ((by_flags r sts).alternate < 4)
-flags_below r sts h = (h.0, either (λ (n : ℕ). n < 4) (eqb (bit flag_ptm sts) 1) h.1 h.0)
+use Rattle.paging.specs.Levels.{level_rights, on_ring}
 
 -- a PCR with another ring in it
 low_ring : (p ring : ℕ) → ring < 4 → ring_of (lowered_pcr p ring) ≡ ring

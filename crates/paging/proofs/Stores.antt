@@ -1,8 +1,8 @@
 -- One word stored, and the words after it.
 -- Assumes nothing.
 use Prim.Native.Nat.{ℕ}
-use mathlib.Core.Path.{◌≡◌, sym, ap}
-use mathlib.Core.Bool.{true, false}
+use mathlib.Core.Path.{◌≡◌, ap}
+use mathlib.Core.Bool.{true}
 use mathlib.Core.List.{List, [], ◌∷◌}
 use Rattle.isa.specs.Pages.{store_all, Lent, lent}
 use Rattle.isa.proofs.Tests.{no_both}
@@ -29,15 +29,3 @@ module _ (m t m' t' : List ℕ) (w : ℕ) where
   store_first (Protection g) e h xs ws = absurd (no_both h)
   store_first (PageFault g) e h xs ws = absurd (no_both h)
   store_first OutOfRange e h xs ws = absurd (no_both h)
-
-  -- any other leaves all words to the places after it
-  pub store_none : (x : Translation) → Left x → is_store x ≡ false → (xs : List Translation) (ws : List ℕ)
-      → store_all m' t' xs ws ≡ store_all m t (x ∷ xs) ws
-  store_none NoAccess e h xs ws = ap (after xs ws) e
-  store_none (Load p) e h xs ws = ap (after xs ws) e
-  store_none (Store p) e h xs ws = absurd (no_both (sym h))
-  store_none (LoadTable i) e h xs ws = ap (after xs ws) e
-  store_none (StoreTable i) e h xs ws = absurd (no_both (sym h))
-  store_none (Protection g) e h xs ws = ap (after xs ws) e
-  store_none (PageFault g) e h xs ws = ap (after xs ws) e
-  store_none OutOfRange e h xs ws = ap (after xs ws) e

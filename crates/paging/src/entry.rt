@@ -45,6 +45,7 @@ pub fn permitted(e: u16, k: AccessKind) -> bool
 }
 
 // Whether it has any permit.
+#[tactic(auto, using(crate::proofs::Laws::any_permit))]
 pub fn some_permit(e: u16) -> bool
     ensures { (page : ℕ) → result ≡ some_permit (entry_of e page) }
 {

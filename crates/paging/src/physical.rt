@@ -11,6 +11,7 @@ use isa::constant::WORD_RANGE;
 const RANGE: usize = WORD_RANGE as usize;
 
 // With so many words of memory; the page tables stand where the mode has them.
+#[tactic(auto, using(crate::proofs::Laws::tables_within, crate::proofs::Laws::window_inside, crate::proofs::Laws::physical_within), unfolding(isa::specs::Physical::physical_place))]
 pub fn physical_place(extended: bool, words: usize, k: AccessKind, p: usize) -> Translation
     ensures value { result ≡ physical_place extended words k p }
     ensures within { Within words result }

@@ -100,6 +100,7 @@ pub(crate) fn window_place(extended: bool, a: usize) -> usize
     a % WINDOW_WORDS
 }
 
+#[tactic(auto, unfolding(isa::specs::Pages::in_window))]
 fn in_window(r: Rights, a: u16) -> bool
     ensures { result ≡ in_window r a }
 {
@@ -113,6 +114,7 @@ fn in_window(r: Rights, a: u16) -> bool
 }
 
 // An access by its physical address.
+#[tactic(auto, unfolding(isa::specs::Pages::within_memory))]
 pub fn physical(words: usize, k: AccessKind, p: usize) -> Translation
     ensures { result ≡ within_memory words k p }
 {
@@ -123,6 +125,7 @@ pub fn physical(words: usize, k: AccessKind, p: usize) -> Translation
 }
 
 // One access. With paging off the address is physical.
+#[tactic(auto, using(crate::proofs::Laws::window_translated, crate::proofs::Laws::window_marked, crate::proofs::Laws::paged_translated, crate::proofs::Laws::paged_marked, crate::proofs::Laws::unpaged_translated, crate::proofs::Laws::unpaged_marked))]
 pub fn translate(
     tables: &mut [u16],
     words: usize,
