@@ -16,6 +16,7 @@ fn detected(n: u16, k: Control) -> Control
 }
 
 // An interrupt sets its IID bit; if IIE has it, PID bit 14 too.
+#[tactic(auto, unfolding(isa::specs::Step::interrupted))]
 pub fn interrupted(n: u16, k: Control) -> Control
     requires { n < 16 }
     ensures { result ≡ interrupted n k }

@@ -1,8 +1,8 @@
 -- From what a device leaves of A, PID and the devices to the core after it.
 -- Assumes nothing.
 use Prim.Native.Nat.{ℕ}
-use mathlib.Core.Path.{◌≡◌, refl, sym, ap, ◌∙◌}
-use mathlib.Core.Bool.{Bool, true, false, cond}
+use mathlib.Core.Path.{◌≡◌, sym, ap, ◌∙◌}
+use mathlib.Core.Bool.{Bool, true, cond}
 use lib.Dec.{eqb}
 use Rattle.isa.specs.Machine.{with_control}
 use Rattle.isa.specs.System.{with_devices}
@@ -13,7 +13,7 @@ use Rattle.isa.specs.declared.machine.File.{File}
 use Rattle.isa.specs.declared.device.Devices.{Devices}
 use Rattle.isa.specs.declared.device.DeviceRegister.{DeviceRegister}
 use Rattle.isa.specs.declared.device.Line.{Line}
-use Rattle.devices.specs.Events.{Leaves, Exchanges, Identifies, Acts, core_with, after_event}
+use Rattle.devices.specs.Events.{Leaves, Exchanges, Identifies, core_with, after_event}
 use Rattle.devices.specs.declared.Acted.{Acted}
 
 -- what a call left, told by other words
@@ -54,17 +54,3 @@ module _ {pid : ℕ} {d : Devices} {w : ℕ} {g : Control → Control} {x : Acte
     answered = h.answered ∙ sym t;
     core = answered_core (λ c. eqb (flip_flop d i) 1) (λ c. identified c i) (λ c. t) q;
   }
-
--- without an answer everything is as it was
-pub unanswered_core : {a pid : ℕ} {d : Devices} {x : Acted}
-    → x ≡ record { answered = false; a = a; pid = pid; devices = d }
-    → (b : Core → Bool) (e : Core → Core) → ((c : Core) → b c ≡ false) → (f : File) (p : ℕ) (k : Control)
-    → let c = core_with f p k a pid d in after_event c x ≡ cond (b c) (e c) c
-unanswered_core {a} {pid} {d} h b e t f p k =
-    let c = core_with f p k a pid d in
-    ap (after_event c) h ∙ ap (λ (y : Bool). cond y (e c) c) (sym (t c))
-
--- the control words of either of two cores
-pub either_control : (b : Bool) (c e : Core) → (cond b c e).control ≡ cond b c.control e.control
-either_control true c e = refl
-either_control false c e = refl

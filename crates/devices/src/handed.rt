@@ -159,6 +159,7 @@ pub fn hand_in(i: DeviceInput, k: Control) -> HandedIn
 }
 
 // An input as a word.
+#[tactic(auto, unfolding(isa::specs::DeviceInput::input_of))]
 pub fn input_of(w: u16) -> DeviceInput
     ensures { result ≡ input_of w }
 {

@@ -8,6 +8,7 @@ use isa::constant::IDENT_CODE;
 use isa::device::{Devices, Line};
 
 // The line that a code names.
+#[tactic(auto, unfolding(isa::specs::InputOutput::line_of))]
 pub(crate) fn line_of(n: u16) -> Line
     ensures { result ≡ line_of n }
 {

@@ -11,6 +11,7 @@ use isa::constant::LENGTH_RANGE;
 use isa::device::{DeviceRegister, Devices};
 
 // The register at an address; all its bits count.
+#[tactic(auto, unfolding(isa::specs::InputOutput::register_of))]
 pub(crate) fn register_of(a: u64) -> DeviceRegister
     ensures { result ≡ register_of a }
 {

@@ -100,6 +100,7 @@ pub fn ends(e: Event) -> bool
 }
 
 // The event, where a privileged instruction needs that the ring is privileged.
+#[tactic(auto, unfolding(crate::specs::Events::by_privilege))]
 pub fn by_privilege(privileged: bool, e: Event) -> Event
     ensures { result ≡ by_privilege privileged e }
 {

@@ -30,5 +30,6 @@ pub record Transferred (f : File) (form : Bool) (o : Transfer) (d : ℕ) (m t : 
       (transferred o f (word_at m t (place_of f form o d m)) (word_at m t (next_place_of f form o d m))) f
   pub stored : lent m' t'
       ≡ cond (passes r.fault)
-      (store_all m t (place_of f form o d m ∷ next_place_of f form o d m ∷ []) (words_of (transfer_stores o f))) (lent m t)
+      (store_all m t (place_of f form o d m ∷ next_place_of f form o d m ∷ []) (words_of (transfer_stores o f)))
+      (lent m t)
   pub made : r.made ≡ transfer_made o (place_of f form o d m)
