@@ -1,8 +1,8 @@
 -- Addresses, requests and completions as the machine's own definition has them.
 -- Assumes nothing.
-use Rattle.std.proofs.Common.{◌≡◌, ℕ, Bool, cond, [], ◌∷◌, ℤ, sym, refl, ap, ◌∙◌, rules as usual}
+use Rattle.std.proofs.Common.{◌≡◌, ℕ, cond, [], ◌∷◌, ℤ, refl}
 use Rattle.isa.specs.Machine.{reg, next}
-use Rattle.isa.specs.Address.{address_rule, access, first_address, first_rule, effective_address, indirect_access}
+use Rattle.isa.specs.Address.{access, first_address, first_rule, effective_address, indirect_access}
 use Rattle.isa.specs.Instructions.{storing}
 use Rattle.isa.specs.declared.access.AccessKind.TheVariants.{Indirect}
 use Rattle.isa.specs.declared.machine.File.{File}
@@ -10,22 +10,10 @@ use Rattle.isa.specs.declared.machine.Register.TheVariants.{P}
 use Rattle.isa.specs.declared.instruction.Mode.{Mode}
 use Rattle.isa.specs.declared.instruction.Mode.TheVariants.{PRelative, BRelative, PIndirect, BIndirect, XRelative}
 use Rattle.isa.specs.declared.instruction.Mode.TheVariants.{BIndexed, PIndirectIndexed, BIndirectIndexed}
-use Rattle.isa.specs.declared.instruction.MemoryOp.{MemoryOp}
 use Rattle.exec_address.specs.Addresses.{first_at, has_indirect, after_indirect}
-use Rattle.exec_address.specs.Requests.{request_of, change_of}
-use Rattle.exec_address.specs.declared.request.Request.{Request}
+use Rattle.exec_address.specs.Requests.{change_of}
 use Rattle.exec_address.specs.declared.request.Change.{Change}
 use Rattle.exec_address.specs.declared.request.Change.TheVariants.{Increment, PutByte}
-
--- What `search` is handed in this crate: what it always is, and that a match over operations or modes gives what a
--- definition has for the one that is met.
-pub asked : (o k : MemoryOp) (g : File) (r : Request) → o ≡ k → r ≡ request_of k g → r ≡ request_of o g
-asked o k g r p q = q ∙ ap (λ (x : MemoryOp). request_of x g) (sym p)
-
-pub ruled : (m k : Mode) (b : Bool) → m ≡ k → b ≡ address_rule k → b ≡ address_rule m
-ruled m k b p q = q ∙ ap address_rule (sym p)
-
-pub ruleset needs = (usual, asked, ruled)
 
 -- ---- addresses
 

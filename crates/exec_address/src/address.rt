@@ -23,6 +23,7 @@ fn base(m: Mode, f: File, at: u16) -> u16
 }
 
 // Base and displacement: the effective address, or where the indirect word stands.
+#[tactic(auto, unfolding(crate::specs::Addresses::first_at))]
 pub fn first_address(m: Mode, d: i16, f: File, at: u16) -> u16
     ensures { result ≡ first_at m d f at }
 {

@@ -13,9 +13,9 @@ use Rattle.isa.specs.Machine.{reg, next, next_core, with_file}
 use Rattle.isa.specs.Address.{access, sum}
 use Rattle.isa.specs.Instructions.{Completed, loads, storing, memory_request, memory_completion}
 use Rattle.isa.specs.Pages.{Entry, entry_at, slot_of, table_of, some_permit, needed, ring_allows, physical, within_memory}
-use Rattle.isa.specs.Pages.{judged, in_window, translate, marked, fault_of, Tested, also_at, test_all, passes, words_at}
+use Rattle.isa.specs.Pages.{judged, in_window, translate, marked, Tested, also_at, test_all, passes, words_at}
 use Rattle.isa.specs.Pages.{Lent, lent, store_all}
-use Rattle.isa.specs.Step.{Part, part, counted, failed, finished}
+use Rattle.isa.specs.Step.{part, counted, failed, finished}
 use Rattle.isa.specs.declared.access.Access.{Access}
 use Rattle.isa.specs.declared.access.AccessKind.{AccessKind}
 use Rattle.isa.specs.declared.access.AccessKind.TheVariants.{Read}
@@ -33,7 +33,7 @@ use Rattle.isa.specs.declared.machine.Register.TheVariants.{D, A, T}
 use Rattle.isa.proofs.Tests.{either, no_both}
 use Rattle.isa.proofs.Counts.{made_most}
 use Rattle.paging.specs.Outcome.{Outcome}
-use Rattle.paging.proofs.Outcomes.{Found, done, found_within, found_passed, found_failed, passes_zero, fails_other}
+use Rattle.paging.proofs.Outcomes.{Found, done, found_within, found_passed, found_failed, fails_other}
 use Rattle.memory_words.specs.Accesses.{several_words, places_of, three_places}
 use Rattle.memory_words.specs.declared.outcome.Places.{Places}
 use Rattle.memory_words.specs.declared.outcome.Places.TheVariants.{Two, Three, Fault}
@@ -264,10 +264,6 @@ module _ {t : List ℕ} {words : ℕ} {r : Rights} {x : Access} {y : Translation
   pub failed_test : passes y ≡ false
   failed_test = fails_other y f.fault e
 
--- what was found of an access of the kind k to the operand x: its place y, the number n of its fault, the tables v left
-abbrev pub FoundAt : AccessKind → Location → List ℕ → List ℕ → Translation → ℕ → List ℕ → Type 0
-FoundAt k x m t y n v = Found t (length m) x.rights (access k x.alternate x.address) y n v
-
 -- the first access of a request failed
 pub access_fails : (f : File) (m : List ℕ) {t : List ℕ} (q : Request) (x : Location) {y : Access} {ys : List Access}
     {z : Translation} {n : ℕ} {v : List ℕ} → y ∷ ys ≡ accesses_of q x.alternate x.address
@@ -303,20 +299,6 @@ module _ (f : File) (k : Change) (x : Exchanged) where
   pub change_done : passes x.fault ≡ true
       → after_exchange f k x ≡ record { references = 0; event = Fine; file = (change_of k f x.word).file }
   change_done h = simp h
-
--- the ending e of a change, by the number n of its fault
-module _ (k : Change) (x : Exchanged) {n : ℕ} {e : Ending} (q : n ≡ fault_of x.fault) where
-  -- an access failed
-  pub exchange_fails : (n ≡ 0 → ⊥) → {f : File}
-      → e ≡ record { references = x.made; event = Failed x.fault; file = f }
-      → e ≡ after_exchange f k x
-  exchange_fails h {f} y = y ∙ sym (change_failed f k x (fails_other x.fault q h))
-
-  -- both passed
-  pub exchange_passes : n ≡ 0 → (f : File) {g : File} → g ≡ (change_of k f x.word).file
-      → e ≡ record { references = 0; event = Fine; file = g }
-      → e ≡ after_exchange f k x
-  exchange_passes h f i y = rw (y, i) (sym (change_done f k x (passes_zero x.fault q h)))
 
 -- ---- two or three words
 

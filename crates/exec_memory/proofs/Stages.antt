@@ -13,9 +13,6 @@ use borrow.Author.Tests.{ltb-false, leb-true, not-false}
 use mir.Syntax.{w16}
 use mir.Val.{SFits, to_z, of_z}
 use mir.ValLaws.{to_z-of_z}
-use types.Run.{OneOf, miss}
-use denote.Enum.Declared.{tag_of}
-use Rattle.isa.specs.contracts.instruction.User.{the_type}
 use Rattle.isa.proofs.Tests.{either, decided}
 use Rattle.isa.proofs.Counts.{counted_twice, counted_none}
 use Rattle.isa.specs.Machine.{reg, next, next_core, with_file, ring_of}
@@ -78,7 +75,8 @@ requested_is :
     → requested c m t q alternate a ≡ operands c m t u i
 unfolding operands operands_tested accessed_by
 requested_is c m t u i q alternate a e h =
-    ap (λ (xs : List Access). accessed_by c m (completion_of q (next c.file) a) (test_all t (length m) (rights_of c) xs))
+    ap (λ (xs : List Access). accessed_by c m (completion_of q (next c.file) a)
+    (test_all t (length m) (rights_of c) xs))
     e
     ∙ go (test_all t (length m) (rights_of c) (request u c.file i))
   where
@@ -112,7 +110,8 @@ module _ (g : File) (m : List ℕ) (md : Mode) {t : List ℕ} {r : Rights} {b : 
   judged_in c o s =
       ap (λ (h : Rights). after_indirect_word c m o md (test_all t (length m) h (access Indirect b a ∷ [])))
       (sym s.rights)
-      ∙ ap (λ (h : Bool). after_indirect_word c m o md (test_all t (length m) (rights_of c) (access Indirect h a ∷ []))) q
+      ∙ ap (λ (h : Bool). after_indirect_word c m o md (test_all t (length m) (rights_of c) (access Indirect h a ∷ [])))
+      q
 
   pub indirect_passed : (i : Bool) (e : ℕ) → n ≡ 0 → i ≡ address_rule md → e ≡ after_indirect md g (word_at m v x)
       → ByIndirect g r md a m t (At i e 1) v
@@ -146,7 +145,8 @@ address_at {c} {a = a} md d s =
     ∙ first_address_law md d c.file
 
 -- the first address, of a displacement that came through 16 bits
-pub first_is : (md : Mode) {d : ℤ} (g : File) (a : ℕ) {x : ℕ} → SFits w16 d → x ≡ first_at md (to_z w16 (of_z w16 d)) g a
+pub first_is : (md : Mode) {d : ℤ} (g : File) (a : ℕ) {x : ℕ} → SFits w16 d
+    → x ≡ first_at md (to_z w16 (of_z w16 d)) g a
     → x ≡ first_at md d g a
 first_is md {d} g a f e = e ∙ ap (λ (z : ℤ). first_at md z g a) (to_z-of_z w16 d f)
 
@@ -252,24 +252,14 @@ module _ (g : File) (m t : List ℕ) (at : ℕ) (r : Rights) {x : Location} (p :
       → UserStage g at r u m t w m' t'
   byte_put e = byte_served StoreByte (Update PutByte) e (λ f. refl) (λ f vs. refl) (λ f. refl)
 
--- the numbers of the variants of an unprivileged instruction but for one
-abbrev not_memory : List ℕ
-not_memory = 1 ∷ 2 ∷ 3 ∷ 4 ∷ 5 ∷ 6 ∷ 7 ∷ 8 ∷ 9 ∷ 10 ∷ 11 ∷ 12 ∷ 13 ∷ 14 ∷ []
-
-abbrev not_load_byte : List ℕ
-not_load_byte = 0 ∷ 1 ∷ 2 ∷ 3 ∷ 4 ∷ 5 ∷ 6 ∷ 7 ∷ 8 ∷ 9 ∷ 11 ∷ 12 ∷ 13 ∷ 14 ∷ []
-
-abbrev not_store_byte : List ℕ
-not_store_byte = 0 ∷ 1 ∷ 2 ∷ 3 ∷ 4 ∷ 5 ∷ 6 ∷ 7 ∷ 8 ∷ 9 ∷ 10 ∷ 12 ∷ 13 ∷ 14 ∷ []
-
 -- an instruction that is none of the three makes no access
 module _ (c : Core) (m t : List ℕ) where
-  registers_alone : (u : User) → OneOf not_memory (tag_of the_type u) → OneOf not_load_byte (tag_of the_type u)
-      → OneOf not_store_byte (tag_of the_type u)
+  registers_alone : (u : User) → ((o : MemoryOp) (md : Mode) (d : ℤ) → u ≡ Memory o md d → ⊥) → (u ≡ LoadByte → ⊥)
+      → (u ≡ StoreByte → ⊥)
       → counted 0 (counted 0 (finished c m t [] (register_completion u (next c.file) (reg c.file P))))
       ≡ user_stage c m t u
   unfolding user_stage indirect_tested operands operands_tested
-  registers_alone (Memory o md d) h i j = absurd (miss not_memory 0 tt h)
+  registers_alone (Memory o md d) h i j = absurd (h o md d refl)
   registers_alone (Jump k d) h i j = refl
   registers_alone (Skip q s d) h i j = refl
   registers_alone (Logic o cld cm1 s d) h i j = refl
@@ -283,8 +273,8 @@ module _ (c : Core) (m t : List ℕ) where
       ap (λ (k : Completed). counted 0 (counted 0 (finished c m t [] k)))
       (register_completion_law (AddArgument q n) c.file 0 [] tt)
   registers_alone (Bit o n q) h i j = refl
-  registers_alone LoadByte h i j = absurd (miss not_load_byte 10 tt i)
-  registers_alone StoreByte h i j = absurd (miss not_store_byte 11 tt j)
+  registers_alone LoadByte h i j = absurd (i refl)
+  registers_alone StoreByte h i j = absurd (j refl)
   registers_alone Mix3 h i j = refl
   registers_alone (Multiply s d) h i j = refl
   registers_alone (Divide s) h i j = refl
@@ -329,7 +319,7 @@ none_twice p = counted_none (counted 0 p) ∙ counted_none p
 
 -- what the code found of an instruction that works on the registers alone
 pub register_served : (f : File) (m t : List ℕ) (a : ℕ) (r : Rights) (u : User) (z : Ending)
-    → OneOf not_memory (tag_of the_type u) → OneOf not_load_byte (tag_of the_type u) → OneOf not_store_byte (tag_of the_type u)
+    → ((o : MemoryOp) (md : Mode) (d : ℤ) → u ≡ Memory o md d → ⊥) → (u ≡ LoadByte → ⊥) → (u ≡ StoreByte → ⊥)
     → z ≡ ending_of (register_completion u f a) → UserStage f a r u m t z m t
 register_served f m t a r u z h i j q l c s =
     ap (λ (y : Ending). ended_part l c y m t) q

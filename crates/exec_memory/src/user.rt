@@ -64,6 +64,7 @@ fn byte_location(f: File, r: Rights) -> Location
 }
 
 // By the rights r with PTM 1.
+#[tactic(auto, using(crate::proofs::Stages::byte_read, crate::proofs::Stages::byte_put, crate::proofs::Stages::register_served))]
 pub fn user_stage(
     f: File,
     at: u16,

@@ -78,6 +78,7 @@ fn division_fails(f: File) -> Ending
 }
 
 // RDIV by d.
+#[tactic(auto, using(crate::proofs::Laws::division_fails_law, crate::proofs::Laws::division_gives))]
 pub fn divided(f: File, d: u16) -> Ending
     ensures { result ≡ ending_of (divided f d) }
 {

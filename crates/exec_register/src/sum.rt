@@ -6,6 +6,7 @@ ghost use Rattle.isa.specs.Instructions.{takes};
 use isa::machine::{File, Register};
 
 // A register takes the sum of a, b and the carry in c, and STS its flags.
+#[tactic(auto, unfolding(isa::specs::Flags::with_sum))]
 pub fn takes(f: File, r: Register, a: u16, b: u16, c: u16) -> File
     requires { c < 2 }
     ensures { result ≡ takes f r (adder a b c) }

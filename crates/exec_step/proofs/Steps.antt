@@ -36,7 +36,7 @@ use Rattle.exec_memory.specs.Served.{Executing}
 use Rattle.exec_memory.specs.Stages.{level_core, ring_after}
 use Rattle.exec_memory.proofs.Stages.{file_left, ring_is, ring_small}
 use Rattle.exec_step.specs.declared.fetch.Page.{Page}
-use Rattle.exec_step.specs.Steps.{InstructionStage, followed_by, followed, ExecutedWord, StepOfLevel}
+use Rattle.exec_step.specs.Steps.{followed_by, followed, ExecutedWord, StepOfLevel}
 
 -- the instruction that is executed is that of the word that was followed
 pub executed_followed : (f : File) (w : ℕ) → decode (followed (next f) w) ≡ executed f (decode w)
@@ -63,17 +63,6 @@ pub event_left : {c : Core} {f : File} {r : Rights} (l : ℕ) (m t : List ℕ) {
     → ended_part l c z m t ≡ event_part l (next_core c) m t (by_privilege (privileged c) e)
 event_left {c} l m t {e = e} s q =
     file_left l m t s q ∙ counted_none (event_part l (next_core c) m t (by_privilege (privileged c) e))
-
--- the instruction i of the word w was executed with the rights r, by PTM of the file f
-pub word_executed : (f : File) (m t : List ℕ) (a w : ℕ) (r : Rights) {i : Instruction} (d : Ending)
-    (m' t' : List ℕ) → i ≡ decode (followed f w) → InstructionStage f a (by_flags r (reg f Sts)) i m t d m' t'
-    → ExecutedWord f a r w m t d m' t'
-word_executed f m t a w r d m' t' y h l p b k e z n =
-    let c : Core = level_core b p k in
-    let rights : rights_of c ≡ by_flags r (reg f Sts) =
-    ap (λ (v : Rights). by_flags v (reg b Sts)) n ∙ ap (λ (g : File). by_flags r (reg g Sts)) e in
-    h l c (record { executing = record { file = e; rights = rights }; address = z })
-    ∙ ap (instruction_stage l c m t) (y ∙ ap (λ (g : File). decode (followed g w)) (sym e) ∙ executed_followed b w)
 
 -- PTM plays no part in a fetch
 fetch_flags : (t : List ℕ) (words : ℕ) (r : Rights) (sts a : ℕ)

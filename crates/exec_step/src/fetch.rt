@@ -106,13 +106,14 @@ fn looked_up(at: u16, r: Rights, mem: &[u16], tables: &mut [u16]) -> FetchResult
 }
 
 // By the rights r, of which PTM plays no part; k is the page that is kept.
+#[tactic(auto, using(crate::proofs::Fetches::kept_place, crate::proofs::Fetches::kept_marks, crate::proofs::Fetches::kept_ring))]
 pub fn fetch(at: u16, r: Rights, k: Page, mem: &[u16], tables: &mut [u16]) -> FetchResult
     requires normal_bound { (r.normal < 4) × (r.alternate < 4) }
     requires tables_len { length tables.old ≡ table_words }
     requires kept { Kept (length mem.now) r k tables.old }
     ensures fetch_of { FetchOf mem.now tables.old r at result tables.new }
     ensures page_value { result.page ≡ page_next (length mem.now) (on_ring r result.ring) k at result.place }
-    ensures kept_2 { Kept (length mem.now) (on_ring r result.ring) result.page tables.new }
+    ensures kept_after { Kept (length mem.now) (on_ring r result.ring) result.page tables.new }
 {
     if at as usize / PAGE_WORDS == k.number {
         let p = k.base + at as usize % PAGE_WORDS;

@@ -17,6 +17,7 @@ use isa::instruction::Instruction;
 use isa::machine::File;
 
 // An instruction after EXR was followed: EXR itself is illegal here. By the rights r with PTM 1.
+#[tactic(auto, using(crate::proofs::Steps::event_left, crate::proofs::Steps::privileged_part), unfolding(isa::specs::Step::instruction_stage, event::specs::Events::event_part, event::specs::Events::by_privilege))]
 fn instruction_stage(
     f: File,
     at: u16,

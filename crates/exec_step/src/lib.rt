@@ -51,12 +51,12 @@ pub fn step_in(
     requires ring_bound { r.ring < 4 }
     requires tables_len { length tables.old ≡ table_words }
     requires kept { Kept (length mem.old) r k tables.old }
-    ensures ring_bound_2 { result.ring < 4 }
+    ensures ring_after { result.ring < 4 }
     ensures step_of_level { StepOfLevel f r mem.old tables.old result mem.new
         tables.new }
     ensures page_value { result.page ≡ page_left (length mem.old) (on_ring r result.ring) k (reg f P)
         (translate tables.old (length mem.old) r (access Fetch false (reg f P))) }
-    ensures kept_2 { is_fine result.event ≡ true
+    ensures kept_after { is_fine result.event ≡ true
         → Kept (length mem.new) (on_ring r result.ring) result.page tables.new }
 {
     let at = f.get(Register::P);
