@@ -34,6 +34,7 @@ fn memory_size(n: usize) -> bool
 }
 
 // Whether memory and page tables have the sizes of document 01.
+#[tactic(auto, unfolding(isa::specs::Machine::sizes_fit))]
 pub fn sizes_fit(mem: &[u16], tables: &[u16]) -> bool
     ensures { result ≡ sizes_fit mem.now tables.now }
 {
@@ -179,6 +180,7 @@ fn control_in_range(c: Control) -> bool
 }
 
 // All bits of sixteen words that stand so far apart, the first of them in front.
+#[tactic(auto, unfolding(crate::specs::Bits::bits_of))]
 fn bits_of(words: &[u16], apart: usize) -> u16
     requires apart_nonzero { 0 < apart }
     requires words_len { length words.now ≡ level_count * apart }
@@ -194,6 +196,7 @@ fn bits_of(words: &[u16], apart: usize) -> u16
 }
 
 // Every PCR: a bit that is not used is in one of them if it is among the bits of all.
+#[tactic(auto, using(crate::proofs::Laws::all_by_bits))]
 fn all_pcr_bits(pcrs: &[u16]) -> bool
     requires { length pcrs.now ≡ level_count }
     ensures { result ≡ all_pcr_bits pcrs.now }
@@ -202,6 +205,7 @@ fn all_pcr_bits(pcrs: &[u16]) -> bool
 }
 
 // Every STS, in the same way.
+#[tactic(auto, using(crate::proofs::Laws::flags_by_bits))]
 fn flags_fit(regs: &[u16]) -> bool
     requires { length regs.now ≡ register_words }
     ensures { result ≡ flags_fit level_count regs.now }
@@ -236,6 +240,7 @@ fn words_in_range(k: Control, regs: &[u16], pcrs: &[u16]) -> bool
 
 // Whether a state's parts are in the ranges of document 01. Registers and PCRs have one lifetime, as two fields of one
 // state are lent for them.
+#[tactic(auto, unfolding(isa::specs::Machine::in_range))]
 fn parts_in_range<'a>(level: u16, k: Control, regs: &'a [u16], pcrs: &'a [u16]) -> bool
     requires regs_len { length regs.now ≡ register_words }
     requires pcrs_len { length pcrs.now ≡ level_count }
@@ -248,6 +253,7 @@ fn parts_in_range<'a>(level: u16, k: Control, regs: &'a [u16], pcrs: &'a [u16]) 
 }
 
 // .. of a state by value.
+#[tactic(auto, using(isa::proofs::Packing::parts_state))]
 pub fn in_range(s: State) -> bool
     ensures { result ≡ in_range s }
 {
@@ -256,6 +262,7 @@ pub fn in_range(s: State) -> bool
 }
 
 // Refusal 1, sizes; refusal 2, a state out of range. Of a state's parts.
+#[tactic(auto, unfolding(isa::specs::Answers::state_answer))]
 pub fn parts_answer<'a>(
     level: u16,
     k: Control,

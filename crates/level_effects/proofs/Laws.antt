@@ -18,7 +18,7 @@ use Rattle.isa.specs.declared.access.AccessKind.TheVariants.{Write}
 use Rattle.isa.specs.declared.machine.Core.{Core}
 use Rattle.isa.specs.declared.machine.File.{File}
 use Rattle.isa.specs.declared.machine.Register.{Register}
-use Rattle.isa.specs.declared.machine.Register.TheVariants.{Sts, P, X}
+use Rattle.isa.specs.declared.machine.Register.TheVariants.{X}
 use Rattle.isa.specs.declared.machine.State.{State}
 use Rattle.isa.proofs.Packing.{put_put, put_take, open_pack, pack_pack}
 use Rattle.paging.specs.Within.{AllWithin}
@@ -32,11 +32,6 @@ use Rattle.levels.specs.declared.change.Advanced.{Advanced}
 use Rattle.levels.proofs.TransferLaws.{put_set, own_register}
 use Rattle.level_effects.specs.Blocks.{BlockTest, with_block}
 use Rattle.level_effects.specs.Leaving.{leaving}
-
--- the level of what a step leaves, and the steps before it
-pub left_at : {l k : ℕ} {c : Core} {made n : ℕ} {r : Advanced} → r ≡ leaving l k c made n
-    → (r.level ≡ l) × (r.before ≡ k)
-left_at e = (ap (λ (r : Advanced). r.level) e, ap (λ (r : Advanced). r.before) e)
 
 -- a turn in which so many references were made
 abbrev pub turn_with : ℕ → State → ℕ → List ℕ → List ℕ → Turn
@@ -87,13 +82,6 @@ module _ (s : State) (b : List ℕ) (e : length b ≡ register_words) (l : ℕ) 
       let h : l % 16 < 16 = omega arith in
       sym (file_block (file_at b (l % 16)) block_order ws)
       ∙ ap (λ (x : List ℕ). put_block (with_regs s x) l block_order ws) (put_take b (l % 16) h e)
-
--- the words of a block in a level's file, P left where the level is the running one
-pub registers_loaded :
-    (f : File) (own : Bool) (w : File)
-    → with_reg (with_reg w P (cond own (reg f P) (reg w P))) Sts (reg w Sts % 256) ≡ with_block own f block_order (list_of w)
-registers_loaded f true w = refl
-registers_loaded f false w = refl
 
 -- all accesses of a block to be stored passed: its places lie in memory, and are to store to
 pub block_storing :
@@ -164,7 +152,8 @@ module _ (l : ℕ) (c : Core) (q : AccessKind) (b m t : List ℕ) {r : Block} {d
         ∙ sym (ap (block_stored state n m) passed_test ∙ simp g)
 
     pub block_from_memory :
-        {ws : List ℕ} → ws ≡ words_at m u (block_places r) → {s : State} → s ≡ put_block (with_regs state d) n block_order ws
+        {ws : List ℕ} → ws ≡ words_at m u (block_places r) → {s : State}
+        → s ≡ put_block (with_regs state d) n block_order ws
         → turn_with r.made s 0 m u ≡ block_loaded state n m test
     unfolding block_loaded
     block_from_memory y z =
@@ -197,7 +186,8 @@ module _ (l : ℕ) (c : Core) (q : AccessKind) (b m t : List ℕ) {r : Block} {d
 
     pub not_moved :
         {y : Advanced} {j : ℕ} → y ≡ leaving l j left r.made (fault_of r.fault)
-        → (advanced_turn y d p m u ≡ block_stored state n m test) × (advanced_turn y d p m u ≡ block_loaded state n m test)
+        → (advanced_turn y d p m u ≡ block_stored state n m test)
+        × (advanced_turn y d p m u ≡ block_loaded state n m test)
     unfolding block_stored block_loaded
     not_moved z =
         let made = sym (ap (λ (v : Tested). v.made) tested_here ∙ count_here) in

@@ -28,6 +28,7 @@ fn turned(level: u16, before: u64, c: Core, gave: u16) -> Advanced
 }
 
 // What the running level left to be done; before: the steps before this one. The references are those made here.
+#[tactic(auto, unfolding(isa::specs::Step::far_stage))]
 pub fn settle(
     level: u16,
     before: u64,

@@ -1,4 +1,4 @@
--- Registers by their numbers, and the running level's words among those of all levels.
+-- A register of a level, and the running level's words, among those of all levels.
 -- Assumes nothing.
 use Rattle.isa.specs.Machine.{level_count, register_words}
 use Prim.Native.Nat.{ℕ, ◌+◌, ◌*◌, ◌%◌, ◌<◌}
@@ -14,22 +14,10 @@ use Rattle.isa.specs.Step.{with_regs, with_pcrs, place_of, register_at, kept, is
 use Rattle.isa.specs.declared.machine.Core.{Core}
 use Rattle.isa.specs.declared.machine.File.{File}
 use Rattle.isa.specs.declared.machine.Register.{Register}
-use Rattle.isa.specs.declared.machine.Register.TheVariants.{Sts, D, P, B, L, A, T, X}
+use Rattle.isa.specs.declared.machine.Register.TheVariants.{A}
 use Rattle.isa.specs.declared.machine.State.{State}
 use Rattle.isa.proofs.Packing.{register_at_law, register_set, put_length, take_put, put_put}
 use Rattle.levels.specs.Words.{with_a}
-
--- ---- registers by their numbers
-
-pub kept_by_number : (r : Register) (w : ℕ) → kept r w ≡ cond (eqb (number r) 0) (w % 256) w
-kept_by_number Sts w = refl
-kept_by_number D w = refl
-kept_by_number P w = refl
-kept_by_number B w = refl
-kept_by_number L w = refl
-kept_by_number A w = refl
-kept_by_number T w = refl
-kept_by_number X w = refl
 
 -- ---- a register of a level among those of all levels
 

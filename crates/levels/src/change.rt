@@ -39,11 +39,12 @@ pub fn change_due(level: u16, k: Control) -> bool
 }
 
 // PVL takes the old level, the new one runs: its words are taken out of the lent ones.
+#[tactic(auto, using(crate::proofs::Changes::changed_level))]
 pub fn changed(level: u16, c: Core, regs: &mut [u16], pcrs: &mut [u16]) -> Advanced
     requires level_lt_level_count { level < level_count }
     requires regs_len { length regs.old ≡ register_words }
     requires pcrs_len { length pcrs.old ≡ level_count }
-    ensures level_lt_level_count_2 { (result.level < level_count) × (result.before ≡ 0) }
+    ensures level_after { (result.level < level_count) × (result.before ≡ 0) }
     ensures by_index { (m t : List ℕ) → advanced_turn result regs.new pcrs.new m t
         ≡ turn (level_changed (pack level c regs.old pcrs.old)) 0 m t }
 {

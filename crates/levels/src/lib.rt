@@ -17,6 +17,7 @@ pub mod pcr;
 pub mod registers;
 
 // A level's registers.
+#[tactic(auto, unfolding(isa::specs::Machine::file_at))]
 pub fn file_at(regs: &[u16], level: u16) -> File
     requires level_lt_level_count { level < level_count }
     requires regs_len { length regs.now ≡ register_words }
@@ -36,6 +37,7 @@ pub fn file_at(regs: &[u16], level: u16) -> File
 }
 
 // All registers with a level's replaced.
+#[tactic(auto, using(crate::proofs::LevelLaws::eight_put))]
 pub fn put_file(regs: &mut [u16], level: u16, f: File)
     requires level_lt_level_count { level < level_count }
     requires regs_len { length regs.old ≡ register_words }

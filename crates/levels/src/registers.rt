@@ -20,6 +20,7 @@ fn kept(r: Register, w: u16) -> u16
 }
 
 // A word to register r of level l; P of the running level is not written.
+#[tactic(auto, using(isa::proofs::Packing::register_set))]
 fn put_other(level: u16, regs: &mut [u16], l: u16, r: Register, w: u16)
     requires { length regs.old ≡ register_words }
     ensures { regs.new ≡ cond (eqb (l % level_count) level && is_p r) regs.old
@@ -35,6 +36,7 @@ fn put_other(level: u16, regs: &mut [u16], l: u16, r: Register, w: u16)
 }
 
 // The running level's words are taken out again.
+#[tactic(auto, using(isa::proofs::Packing::put_take))]
 pub fn reloaded(level: u16, c: Core, regs: &[u16]) -> Core
     requires level_lt_level_count { level < level_count }
     requires regs_len { length regs.now ≡ register_words }
@@ -59,6 +61,7 @@ pub fn called(level: u16, c: Core, regs: &mut [u16], w: u16) -> Core
 }
 
 // IRR: a register of a level to A.
+#[tactic(auto, using(isa::proofs::Packing::put_put, isa::proofs::Packing::register_at_law, crate::proofs::TransferLaws::own_a_law))]
 pub fn register_read(level: u16, c: Core, regs: &mut [u16], l: u16, r: Register) -> Core
     requires level_lt_level_count { level < level_count }
     requires regs_len { length regs.old ≡ register_words }

@@ -1,11 +1,11 @@
 -- Where a run stands after so many steps, how it goes on, and how it ends.
 -- Assumes nothing.
 use Rattle.std.proofs.Common.{◌≡◌, ℕ, zero, suc, ◌+◌, ◌-◌, ◌%◌, ◌<◌, ◌≤◌, Bool, true, false, cond, not, ◌&&◌, eqb, List, sym, refl, ap, ◌∙◌, add-zero, mod-lt, mod-eq_of_lt, zero-add, arith, lit<}
-use Rattle.isa.specs.Machine.{level_count, pack, control_of}
+use Rattle.isa.specs.Machine.{control_of}
 use Rattle.isa.specs.Step.{Turn, turn, step, is_stopped}
 use Rattle.isa.specs.Run.{Run, sum_range, ended, counted_run, run_from}
 use Rattle.isa.proofs.Runs.{run_stopped}
-use Rattle.isa.proofs.Counts.{counted_run_twice, counted_run_low, counted_run_none, run_sum_below}
+use Rattle.isa.proofs.Counts.{counted_run_twice, counted_run_low}
 use Rattle.isa.proofs.References.{nine_at_most}
 use Rattle.isa.proofs.Tests.{no_both, and_left}
 use Rattle.isa.specs.declared.answer.Reason.{Reason}
@@ -14,10 +14,8 @@ use Rattle.isa.specs.declared.machine.State.{State}
 use Rattle.levels.specs.Changes.{due_at}
 use Rattle.levels.specs.declared.change.Advanced.{Advanced}
 use Rattle.levels.proofs.Changes.{due_pack}
-use Rattle.run_level.specs.Bursts.{goes_on}
 use Rattle.run_slice.specs.Advances.{Advance}
 use Rattle.run.specs.Runs.{ran_with, turn_with, reason_at_rest}
-use Rattle.run.specs.declared.machine.LoopEnd.{LoopEnd}
 
 -- a run of n steps from s stands at r, behind k of them; r has their references, the sum's low 64 bits
 pub record Going (first : Bool) (n : ℕ) (s : State) (m t : List ℕ) (k : ℕ) (r : Turn) : Type 0 where
@@ -33,12 +31,6 @@ abbrev pub Ended : Bool → ℕ → State → List ℕ → List ℕ → Reason �
 Ended first n s m t w k r =
     (ran_with r.references w k r.state r.memory r.tables ≡ run_from first n 0 s m t)
     × (n ≡ 1 → first ≡ false → r ≡ step s m t)
-
--- what run_in answers
-abbrev pub Answered : ℕ → Bool → State → List ℕ → List ℕ → List ℕ → List ℕ → List ℕ → List ℕ → LoopEnd → Type 0
-Answered n first s m t regs pcrs m' t' r =
-    (r.level < level_count) × Ended first n s m t r.reason r.steps
-    (turn_with r.references (pack r.level r.core regs pcrs) r.gave m' t')
 
 -- a run to the first interrupt is not a run through
 not_through : (first y : Bool) → (first && y) ≡ true → first ≡ false → ⊥
@@ -73,18 +65,6 @@ rest_run first k s m t =
     go true y = refl
     go false true = refl
     go false false = refl
-
-pub at_start : (first : Bool) (n : ℕ) (s : State) (m t : List ℕ) → Going first n s m t 0 (turn s 0 m t)
-at_start first n s m t = record {
-  most = omega arith;
-  low = lit< tt;
-  total =
-      let e : n ≡ n - 0 = omega arith in
-      ap (λ (x : ℕ). run_from first x 0 s m t) e
-      ∙ sym (counted_run_none _ (run_sum_below first (n - 0) 0 s m t));
-  none = λ z. refl;
-  one = λ z. absurd (omega (arith, z));
-}
 
 module _ {first : Bool} {n : ℕ} {s : State} {m t : List ℕ} {k : ℕ} {r : Turn} (g : Going first n s m t k r) where
   pub ends_stopped : k < n → is_stopped r.state ≡ true → Ended first n s m t Stopped k r
@@ -157,17 +137,6 @@ module _ {first : Bool} {n : ℕ} {s : State} {m t : List ℕ} {k : ℕ} {r : Tu
         ∙ ap (λ (y : ℕ). y % sum_range) (zero-add q.references)
         ∙ mod-eq_of_lt (rw same few) in
         ap (λ (y : ℕ). turn_with y q.state q.gave q.memory q.tables) whole ∙ same
-
-    pub ends_interrupt : (first && not (eqb q.gave 0)) ≡ true
-        → Ended first n s m t Interrupt (k + a.before + 1) there
-    ends_interrupt x =
-        let e : k + a.before + 1 ≡ suc (k + a.before) = omega arith in
-        let last : Run = ended Interrupt (suc (k + a.before)) q.state q.memory q.tables in (
-          ap (λ (y : ℕ). ran_with sum Interrupt y q.state q.memory q.tables) e
-              ∙ ended_with sum Interrupt (suc (k + a.before)) q.state q.memory q.tables below
-              ∙ sym (behind last (rw x refl)),
-          λ y f. absurd (not_through first (not (eqb q.gave 0)) x f),
-        )
 
     pub goes_on_law : (first && not (eqb q.gave 0)) ≡ false → Going first n s m t (k + a.before + 1) there
     goes_on_law x = record {

@@ -45,12 +45,12 @@ pub fn run(
     requires level_lt_level_count { level < level_count }
     requires regs_len { (length regs.old ≡ register_words) × (length pcrs.old ≡ level_count) }
     requires tables_len { length tables.old ≡ table_words }
-    ensures level_lt_level_count_2 { result.level < level_count }
+    ensures level_after { result.level < level_count }
     ensures tables_after { ran_with result.references result.reason result.steps
         (state_with result.level result.control regs.new pcrs.new) mem.new tables.new
         ≡ run_from first n 0 (state_with level k regs.old pcrs.old) mem.old
         tables.old }
-    ensures tables_after_2 { n ≡ 1 → first ≡ false
+    ensures one_step { n ≡ 1 → first ≡ false
         → turn_with result.references (state_with result.level result.control regs.new pcrs.new) result.gave
         mem.new tables.new
         ≡ step (state_with level k regs.old pcrs.old) mem.old tables.old }

@@ -99,7 +99,7 @@ pub fn run_in(
     ensures tables_after { loop_run result regs.new pcrs.new mem.new tables.new
         ≡ run_from first n 0 (pack start c regs.old pcrs.old) mem.old
         tables.old }
-    ensures tables_after_2 { n ≡ 1 → first ≡ false
+    ensures one_step { n ≡ 1 → first ≡ false
         → turn_with result.references (pack result.level result.core regs.new pcrs.new) result.gave
         mem.new tables.new
         ≡ step (pack start c regs.old pcrs.old) mem.old tables.old }

@@ -18,6 +18,7 @@ pub struct StepEnd {
 }
 
 // Refusals 1 and 2.
+#[tactic(auto, using(checks::proofs::Passed::run_needs), unfolding(isa::specs::Answers::step_call))]
 pub fn step(
     level: u16,
     k: Control,

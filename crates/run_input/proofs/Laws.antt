@@ -1,6 +1,6 @@
 -- Where a run with device input stands behind so many inputs.
 -- Assumes nothing.
-use Rattle.std.proofs.Common.{◌≡◌, ℕ, zero, suc, ◌+◌, ◌-◌, ◌%◌, ◌<◌, ◌≤◌, Bool, true, false, cond, ltb, List, [], ◌∷◌, ◌++◌, length, get_or, take, drop, set, sym, refl, ap, ◌∙◌, subst, append-nil, mod-lt, arith, lit<, length-set, take-append-drop, length-take, drop-drop, take-suc-set, drop-set-lt, le-ltb, lt-ltb}
+use Rattle.std.proofs.Common.{◌≡◌, ℕ, zero, suc, ◌+◌, ◌-◌, ◌%◌, ◌<◌, ◌≤◌, Bool, true, false, cond, ltb, List, [], ◌∷◌, ◌++◌, length, get_or, take, drop, set, sym, refl, ap, ◌∙◌, subst, append-nil, mod-lt, arith, lit<, length-set, drop-drop, take-suc-set, drop-set-lt, le-ltb, lt-ltb}
 use lib.Seq.{append_snoc}
 use Rattle.isa.specs.Machine.{state_with}
 use Rattle.isa.specs.Run.{Run, sum_range, counted_run, run_from}
@@ -11,8 +11,6 @@ use Rattle.isa.specs.DeviceInput.{counted_input_run, input_of, given_of}
 use Rattle.isa.specs.declared.machine.State.{State}
 use Rattle.run.specs.Runs.{ran_with}
 use Rattle.run.specs.declared.RunEnd.{RunEnd}
-use Rattle.run_input.specs.Inputs.{end_run, onto}
-use Rattle.run_input.specs.declared.InputEnd.{InputEnd}
 
 -- ---- the inputs of two lists
 
@@ -85,14 +83,6 @@ at_start n gs s m t u = record {
   size = refl;
   rest = refl;
 }
-
--- the words told begin with those of the inputs handed in, and the others are as they were
-pub told_kept : (i : ℕ) (u u₀ : List ℕ) → i ≤ length u → drop i u ≡ drop i u₀
-    → u ≡ take i u ++ drop (length (take i u)) u₀
-told_kept i u u₀ l h =
-    let e : length (take i u) ≡ i = length-take i u ∙ omega arith in
-    sym (take-append-drop i u)
-    ∙ ap (λ (r : List ℕ). take i u ++ r) (h ∙ ap (λ (j : ℕ). drop j u₀) (sym e))
 
 module _ {n : ℕ} {gs : List Given} {s : State} {m t u₀ : List ℕ} {i k sum : ℕ} {z : State} {m' t' u : List ℕ}
     (h : Stands n gs s m t u₀ i k sum z m' t' u) where
@@ -210,32 +200,6 @@ module _ {n : ℕ} {gs : List Given} {s : State} {m t u₀ : List ℕ} {i k sum 
 
 -- ---- what the loop answers
 
--- a run that ended as r, with i inputs handed in
-abbrev pub end_with : RunEnd → ℕ → InputEnd
-end_with r i = record {
-  level = r.level;
-  control = r.control;
-  steps = r.steps;
-  references = r.references;
-  handed = i;
-  reason = r.reason;
-}
-
 abbrev pub ended_run : RunEnd → List ℕ → List ℕ → List ℕ → List ℕ → Run
 ended_run r regs pcrs m t =
     ran_with r.references r.reason r.steps (state_with r.level r.control regs pcrs) m t
-
-abbrev pub Answered : ℕ → List Given → State → List ℕ → List ℕ → List ℕ → List ℕ → List ℕ → List ℕ → List ℕ → List ℕ
-    → InputEnd → Type 0
-Answered n gs s m t u₀ regs pcrs m' t' u r =
-    (end_run r (take r.handed u) regs pcrs m' t' ≡ input_run_from n gs 0 s m t)
-    × ((u ≡ onto (take r.handed u) u₀) × (r.handed ≤ length u₀))
-
-pub answered : {n : ℕ} {gs : List Given} {s : State} {m t u₀ : List ℕ} {i k sum : ℕ} {z : State}
-    {m' t' u : List ℕ} → Stands n gs s m t u₀ i k sum z m' t' u → i ≤ length u₀
-    → (r : RunEnd) (regs pcrs m'' t'' : List ℕ)
-    → record { run = ended_run r regs pcrs m'' t''; told = take i u } ≡ input_run_from n gs 0 s m t
-    → (e : InputEnd) → e ≡ end_with r i → Answered n gs s m t u₀ regs pcrs m'' t'' u e
-answered {n} {gs} {s} {m} {t} {u₀} {i} {u = u} h l r regs pcrs m'' t'' q e p =
-    subst (Answered n gs s m t u₀ regs pcrs m'' t'' u) (sym p)
-    (q, (told_kept i u u₀ (omega (arith, l, h.size)) h.rest, l))

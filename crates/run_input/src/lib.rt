@@ -53,7 +53,7 @@ fn run_on(
     requires level_lt_level_count { level < level_count }
     requires regs_len { (length regs.old ≡ register_words) × (length pcrs.old ≡ level_count) }
     requires tables_len { length tables.old ≡ table_words }
-    ensures level_lt_level_count_2 { result.level < level_count }
+    ensures level_after { result.level < level_count }
     ensures tables_after { ran_with result.references result.reason result.steps
         (state_with result.level result.control regs.new pcrs.new) mem.new tables.new
         ≡ counted_run references (run_from true (to - from) from

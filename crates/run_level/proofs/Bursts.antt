@@ -1,11 +1,10 @@
 -- Quiet steps of the running level: a run goes on behind them as if each had been taken by itself.
 -- Assumes nothing.
-use Rattle.std.proofs.Common.{◌≡◌, ℕ, suc, ◌+◌, ◌-◌, ◌%◌, ◌<◌, ◌≤◌, Bool, List, sym, refl, ap, ◌∙◌, subst, mod-eq_of_lt, zero-add, arith}
+use Rattle.std.proofs.Common.{◌≡◌, ℕ, suc, ◌+◌, ◌-◌, ◌%◌, ◌<◌, ◌≤◌, Bool, List, sym, ap, ◌∙◌, subst, mod-eq_of_lt, zero-add, arith}
 use Rattle.isa.specs.Machine.{pack}
 use Rattle.isa.specs.Pages.{lowered_pcr}
 use Rattle.isa.specs.Step.{Part, counted, step_in}
 use Rattle.isa.specs.Run.{sum_range, counted_run, run_from}
-use Rattle.isa.proofs.Counts.{counted_run_none, run_sum_below}
 use Rattle.isa.specs.declared.access.Rights.{Rights}
 use Rattle.isa.specs.declared.machine.Control.{Control}
 use Rattle.isa.specs.declared.machine.Core.{Core}
@@ -18,8 +17,7 @@ use Rattle.paging.proofs.Levels.{ring_rights, ring_twice}
 use Rattle.exec_memory.specs.Stages.{level_core}
 use Rattle.exec_step.specs.Steps.{StepOfLevel}
 use Rattle.exec_step.specs.declared.LevelStep.{LevelStep}
-use Rattle.run_level.specs.Bursts.{Levels, Executes, leaves, goes_on, QuietSteps, QuietStep}
-use Rattle.run_level.specs.declared.Burst.{Burst}
+use Rattle.run_level.specs.Bursts.{Levels, Executes, leaves, goes_on}
 use Rattle.run_level.proofs.Laws.{one_step, runs_on, goes_on_law, counted_before, fine_leaves, no_change}
 
 -- the level's registers, PCR, memory and tables
@@ -65,20 +63,6 @@ pub record Quiet (g x n : ℕ) (a : Level) (before : ℕ) (b : Level) (r : ℕ) 
   pub none : before ≡ 0 → (b ≡ a) × (r ≡ 0)
   pub one : before ≡ 1 → Steps g x a b r Fine
 
--- none yet
-pub at_start : (g x n : ℕ) (a : Level) → Quiet g x n a 0 a 0
-at_start g x n a = record {
-  most = omega arith;
-  reaches = λ first l j k regs pcrs p o y v.
-      let e : j ≡ j + 0 = omega arith in
-      let d : n ≡ n - 0 = omega arith in
-      let s = pack l (level_core a.file a.pcr k) regs pcrs in
-      (λ i. run_from first (d i) (e i) s a.memory a.tables)
-      ∙ sym (counted_run_none _ (run_sum_below first (n - 0) (j + 0) s a.memory a.tables));
-  none = λ z. (refl, refl);
-  one = λ z. absurd (omega (arith, z));
-}
-
 -- all n of them
 module _ {g x n : ℕ} {a b : Level} {r : ℕ} (q : Quiet g x n a n b r) (h : 0 < n) where
   pub all_quiet : Ends g x n a (n - 1) b r Fine
@@ -89,9 +73,6 @@ module _ {g x n : ℕ} {a b : Level} {r : ℕ} (q : Quiet g x n a n b r) (h : 0 
       ∙ ap (λ (y : ℕ). counted_run r (run_from first (n - y) (j + y) (pack l c regs pcrs) b.memory b.tables)) e
       ∙ sym (goes_on_law first n j (n - 1) r (pack l c regs pcrs) b.memory b.tables)
       ∙ ap (goes_on first n j (n - 1)) (sym (fine_leaves l c regs pcrs b.memory b.tables r))
-
-  pub the_only : n - 1 ≡ 0 → Steps g x a b r Fine
-  the_only z = q.one (omega (arith, z, h))
 
 module _ {g x n : ℕ} {a b : Level} {before r : ℕ} (q : Quiet g x n a before b r) (h : before < n)
     {i sum : ℕ} (low : i < sum_range) (added : sum ≡ (r + i) % sum_range) where
@@ -143,8 +124,3 @@ stepped g x p ring f m t {r} s m' t' h e d l k q o =
     sym (d l (lowered_pcr p ring) k rights)
     ∙ ap (λ (y : ℕ). counted s.references (event_part l (level_core s.file y k) m' t' s.event))
     (ring_twice p ring s.ring h)
-
--- what quiet_steps answers
-abbrev pub Answered : File → ℕ → ℕ → ℕ → List ℕ → List ℕ → ℕ → List ℕ → List ℕ → Burst → Type 0
-Answered f p g x m t n m' t' b =
-    (b.before < n) × (QuietSteps f p g x m t n b m' t' × QuietStep f p g x m t b m' t')

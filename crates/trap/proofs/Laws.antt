@@ -1,20 +1,19 @@
 -- Interrupts of accesses, places by physical addresses, the instructions by T and X, and what devices answer.
 -- Assumes nothing.
-use Prim.Native.Nat.{ℕ, ◌<◌, ◌≤◌}
+use Prim.Native.Nat.{ℕ, ◌≤◌}
 use native.Mathlib.Omega.{arith}
 use mathlib.Core.Path.{◌≡◌, refl, sym, ap, subst, ◌∙◌}
 use mathlib.Core.Bool.{Bool, true, false, cond, ◌&&◌}
 use mathlib.Core.List.{List, [], ◌∷◌}
 use lib.Dec.{ltb, eqb}
 use Rattle.isa.specs.Machine.{interrupt_iox, reg, with_file}
-use Rattle.isa.specs.Pages.{in_memory, within_memory, fault_of, passes, word_at, words_of, Lent, lent, store_all}
+use Rattle.isa.specs.Pages.{in_memory, within_memory, passes, word_at, words_of, Lent, lent, store_all}
 use Rattle.isa.specs.Physical.{two_words, first_fault, transfer_made, transfer_stores, transferred}
 use Rattle.isa.specs.Step.{Part, part, counted, failed, trapped, transfer_stage}
 use Rattle.isa.specs.declared.access.AccessKind.{AccessKind}
 use Rattle.isa.specs.declared.access.AccessKind.TheVariants.{Fetch, Read, Write, Indirect}
 use Rattle.isa.specs.declared.access.Translation.{Translation}
-use Rattle.isa.specs.declared.access.Translation.TheVariants.{NoAccess, Load, Store, LoadTable, StoreTable}
-use Rattle.isa.specs.declared.access.Translation.TheVariants.{Protection, PageFault, OutOfRange}
+use Rattle.isa.specs.declared.access.Translation.TheVariants.{OutOfRange}
 use Rattle.isa.specs.declared.answer.Far.{Far}
 use Rattle.isa.specs.declared.answer.Far.TheVariants.{Nothing}
 use Rattle.isa.specs.declared.answer.Near.{Near}
@@ -31,16 +30,6 @@ use Rattle.devices.specs.Events.{Acts, after_event, event_answered, event_core}
 use Rattle.devices.specs.declared.Acted.{Acted}
 use Rattle.devices.specs.declared.event.DeviceEvent.{DeviceEvent}
 use Rattle.trap.specs.Parts.{near_part, event_stage}
-
-pub fault_small : (x : Translation) → fault_of x < 16
-fault_small NoAccess = omega arith
-fault_small (Load p) = omega arith
-fault_small (Store p) = omega arith
-fault_small (LoadTable i) = omega arith
-fault_small (StoreTable i) = omega arith
-fault_small (Protection g) = omega arith
-fault_small (PageFault g) = omega arith
-fault_small OutOfRange = omega arith
 
 -- what has no reference yet
 pub unreferenced : (n : Near) {c : Core} {gave : ℕ} {far : Far}

@@ -54,6 +54,7 @@ fn counted(n: u32, r: Near) -> Near
 }
 
 // A failed access: 2 and 3 set PGS and hold it, unless it is held.
+#[tactic(auto, unfolding(isa::specs::Step::faulted))]
 pub fn faulted(x: Translation, c: Core) -> Core
     ensures { result ≡ faulted x c }
 {
@@ -161,6 +162,7 @@ fn device_address(c: Core) -> u64
 }
 
 // A privileged instruction: done here, or left to be done outside the level.
+#[tactic(auto, unfolding(isa::specs::Step::device_stage, isa::specs::Step::ident_stage))]
 fn system_stage(level: u16, c: Core, mem: &mut [u16], tables: &mut [u16], q: System) -> Near
     requires level_lt_level_count { level < level_count }
     requires tables_len { length tables.old ≡ table_words }

@@ -1,0 +1,99 @@
+-- The input at the loop's place is one of the lists', which each of them has; the run goes on to its step.
+use Rattle.std.proofs.Common.{◌≡◌, suc, ◌<◌, List, ◌∷◌, length, get_or, take, drop, sym, refl, ap, ◌∙◌, arith}
+use Rattle.isa.specs.Machine.{state_with}
+use Rattle.isa.specs.DeviceInput.{Given, input_call, input_of, given_of}
+use Rattle.isa.specs.declared.device.DeviceInput.{DeviceInput}
+use Rattle.run_input.proofs.Laws.{at_start, given_at, given_past, ends_past, ends_beyond, ends_before}
+use Rattle.run_input.proofs.Laws.{goes_on_law, ended_run}
+use Rattle.run_input.proofs.run_with_input.Goals as goal
+
+-- no input was handed in
+pub loop-i-init : goal.loop-i-init
+loop-i-init c =
+    let a = c.args in
+    record {
+      stands =
+          at_start a.n (given_of (take (length a.told.now) a.at.now) a.what.now)
+          (state_with a.start a.k a.regs.now a.pcrs.now) a.mem.now a.tables.now a.told.now;
+      level = c.requires.start_lt_level_count;
+      within = omega arith;
+    }
+
+-- the next input is beyond n
+pub returns-then-n-due-clause-tables_after : goal.returns-then-n-due-clause-tables_after
+returns-then-n-due-clause-tables_after c =
+    let a = c.args in
+    let l = c.loop-i in
+    let all = c.shorter-count.ensures.upper_bound in
+    let two = c.shorter.ensures.upper_bound in
+    let given : List Given = given_of (take (length a.told.now) a.at.now) a.what.now in
+    let next : Given = record { at = get_or a.at.now l.i 0; input = input_of (get_or a.what.now l.i 0) } in
+    let split : drop l.i given ≡ next ∷ drop (suc l.i) given =
+    given_at l.i (length a.told.now) a.at.now a.what.now (omega (arith, c.loop-i-test.true, all.0, two.1))
+    (omega (arith, c.loop-i-test.true, all.0, two.0))
+    (omega (arith, c.loop-i-test.true, all.1)) in
+    rw c.end_of.ensures
+    (ends_beyond l.invariant.stands next (drop (suc l.i) given) split _ c.if-n-due.true
+    c.run_on-last.ensures.tables_after)
+
+-- the input was handed in
+pub loop-i-preserved : goal.loop-i-preserved
+loop-i-preserved c =
+    let a = c.args in
+    let l = c.loop-i in
+    let all = c.shorter-count.ensures.upper_bound in
+    let two = c.shorter.ensures.upper_bound in
+    let given : List Given = given_of (take (length a.told.now) a.at.now) a.what.now in
+    let next : Given = record { at = get_or a.at.now l.i 0; input = input_of (get_or a.what.now l.i 0) } in
+    let room : l.i < length a.told.now = omega (arith, c.loop-i-test.true, all.0, two.1) in
+    let split : drop l.i given ≡ next ∷ drop (suc l.i) given =
+    given_at l.i (length a.told.now) a.at.now a.what.now room (omega (arith, c.loop-i-test.true, all.0, two.0))
+    (omega (arith, c.loop-i-test.true, all.1)) in
+    let r = c.run_on-r.result in
+    let left = c.run_on-r.new in
+    let h = c.hand_in-h.result in
+    record {
+      stands =
+          goes_on_law l.invariant.stands next (drop (suc l.i) given) split c.if-n-due.false
+          (ended_run r left.regs left.pcrs left.mem left.tables) c.run_on-r.ensures.tables_after
+          (sym c.is_spent.ensures ∙ c.if-is_spent.true)
+          (record { told = h.told; state = state_with r.level h.control left.regs left.pcrs })
+          (ap (λ (i : DeviceInput). input_call i (state_with r.level r.control left.regs left.pcrs))
+          (sym c.input_of.ensures)
+          ∙ c.hand_in-h.ensures r.level left.regs left.pcrs)
+          refl (omega (arith, room, l.invariant.stands.size)) c.put.new.told c.put.ensures;
+      level = c.run_on-r.ensures.level_after;
+      within = omega arith;
+    }
+
+-- the run ended before the input's step
+pub returns-else-is_spent-clause-tables_after : goal.returns-else-is_spent-clause-tables_after
+returns-else-is_spent-clause-tables_after c =
+    let a = c.args in
+    let l = c.loop-i in
+    let all = c.shorter-count.ensures.upper_bound in
+    let two = c.shorter.ensures.upper_bound in
+    let given : List Given = given_of (take (length a.told.now) a.at.now) a.what.now in
+    let next : Given = record { at = get_or a.at.now l.i 0; input = input_of (get_or a.what.now l.i 0) } in
+    let split : drop l.i given ≡ next ∷ drop (suc l.i) given =
+    given_at l.i (length a.told.now) a.at.now a.what.now (omega (arith, c.loop-i-test.true, all.0, two.1))
+    (omega (arith, c.loop-i-test.true, all.0, two.0))
+    (omega (arith, c.loop-i-test.true, all.1)) in
+    rw c.end_of-else-is_spent.ensures
+    (ends_before l.invariant.stands next (drop (suc l.i) given) split c.if-n-due.false _
+    c.run_on-r.ensures.tables_after (sym c.is_spent.ensures ∙ c.if-is_spent.false))
+
+-- no input is left
+pub returns-clause-tables_after : goal.returns-clause-tables_after
+returns-clause-tables_after c =
+    let a = c.args in
+    let l = c.loop-i in
+    let all = c.shorter-count.ensures in
+    let two = c.shorter.ensures in
+    let none : l.i < length a.told.now → l.i < length a.at.now → l.i < length a.what.now → ⊥ =
+    λ u v w.
+    let less = all.by_index l.i (two.by_index l.i v u) w in
+    let no : ⊥ = omega (arith, less, c.loop-i-test.false) in no in
+    rw c.end_of-2.ensures
+    (ends_past l.invariant.stands _ (given_past l.i (length a.told.now) a.at.now a.what.now none)
+    c.run_on-last-2.ensures.tables_after)

@@ -1,0 +1,6 @@
+-- The interrupt in the core, and its number.
+use Rattle.std.proofs.Common.{◌∙◌}
+use Rattle.trap.proofs.trapped.Goals as goal
+
+pub returns : goal.returns
+returns c = λ m t. c.left.ensures m t ∙ simp c.gives.ensures
