@@ -2,14 +2,14 @@
 -- Assumes nothing.
 use Prim.Native.Nat.{ℕ, suc, ◌+◌, ◌-◌, ◌*◌, ◌≤◌, ◌<◌}
 use mathlib.Core.Path.{◌≡◌, sym, ap, ◌∙◌}
-use mathlib.Core.Bool.{true, false, ◌&&◌}
+use mathlib.Core.Bool.{true, ◌&&◌}
 use mathlib.Core.List.{List, [], ◌∷◌}
 use native.Mathlib.Omega.{arith}
 use native.Mathlib.Nat.{add-zero}
 use lib.ListN.{length, get_or, drop}
 use lib.Seq.{get_or-drop, drop-drop}
 use lib.Dec.{ltb, leb}
-use borrow.Author.Tests.{lt-ltb, le-ltb, le-leb, lt-leb, ltb-true, leb-true}
+use borrow.Author.Tests.{ltb-true, leb-true}
 use Rattle.isa.specs.Images.{ImageEntry, high_low, image_entry_of, entries_of, entry_count, contents_fit, named_words}
 use Rattle.isa.proofs.Tests.{and_left, and_right}
 use Rattle.image_directory.specs.Entries.{image_entry_at, rest_of}
@@ -65,18 +65,6 @@ rest_start n i = ap (λ (x : ℕ). entries_of x (drop 1 i)) q
 -- ---- contents
 
 module _ (i : List ℕ) where
-  pub contents_empty : length i ≤ 0 → false ≡ contents_fit i
-  unfolding contents_fit
-  contents_empty h = simp (le-ltb 0 (length i) h)
-
-  pub contents_over : (n : ℕ) → 0 < length i → n ≡ get_or i 0 0 → 32 < n → false ≡ contents_fit i
-  unfolding contents_fit
-  contents_over n h e l = simp (lt-ltb 0 (length i) h, ← e, lt-leb n 32 l)
-
-  pub contents_rest : (n : ℕ) → 0 < length i → n ≡ get_or i 0 0 → n ≤ 32 → leb (1 + n * 5) (length i) ≡ contents_fit i
-  unfolding contents_fit
-  contents_rest n h e l = simp (lt-ltb 0 (length i) h, ← e, le-leb n 32 l)
-
   -- what contents that fit say
   module _ (h : contents_fit i ≡ true) where
     first_two : (ltb 0 (length i) && leb (entry_count i) 32) ≡ true

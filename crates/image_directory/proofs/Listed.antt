@@ -8,7 +8,7 @@ use native.Mathlib.Omega.{arith}
 use native.Mathlib.Numerals.{add-one}
 use lib.ListN.{length, drop, length-drop}
 use lib.Dec.{ltb}
-use borrow.Author.Tests.{lt-ltb, le-ltb, eq-eqb, ne_eqb}
+use borrow.Author.Tests.{eq-eqb, ne_eqb}
 use Rattle.isa.specs.Images.{ImageEntry, entries_of, known_kind, size_of, meets, meets_any, entries_answer, named_words}
 use Rattle.isa.specs.declared.answer.Refusal.{Refusal}
 use Rattle.isa.specs.declared.answer.Refusal.TheVariants.{Kind, Target, Overlap, Bodies}
@@ -26,31 +26,6 @@ seen_next k i = ap (λ (x : ℕ). seen_of x i) (add-one k)
 
 -- ---- overlap
 
--- two entries of one kind, the first not empty: the second empty; before the first; or not
-module _ (a b : ImageEntry) (k : a.kind ≡ b.kind) (m : 0 < a.count) where
-  pub meets_empty : b.count ≤ 0 → false ≡ meets a b
-  unfolding meets
-  meets_empty h = simp (eq-eqb a.kind b.kind k, lt-ltb 0 a.count m, le-ltb 0 b.count h)
-
-  module _ (n : 0 < b.count) where
-    pub meets_before : b.start + b.count ≤ a.start → false ≡ meets a b
-    unfolding meets
-    meets_before h = simp (
-      eq-eqb a.kind b.kind k,
-      lt-ltb 0 a.count m,
-      lt-ltb 0 b.count n,
-      le-ltb a.start (b.start + b.count) h,
-    )
-
-    pub meets_last : a.start < b.start + b.count → ltb b.start (a.start + a.count) ≡ meets a b
-    unfolding meets
-    meets_last h = simp (
-      eq-eqb a.kind b.kind k,
-      lt-ltb 0 a.count m,
-      lt-ltb 0 b.count n,
-      lt-ltb a.start (b.start + b.count) h,
-    )
-
 module _ (e : ImageEntry) (k : ℕ) (i : List ℕ) (h : 0 < k) where
   any_split : meets_any e (seen_of k i) ≡ (meets e (image_entry_at (k - 1) i) || meets_any e (seen_of (k - 1) i))
   unfolding seen_of
@@ -62,7 +37,8 @@ module _ (e : ImageEntry) (k : ℕ) (i : List ℕ) (h : 0 < k) where
   pub any_found : meets e (image_entry_at (k - 1) i) ≡ true → meets_any e (seen_of k i) ≡ true
   any_found q = any_split ∙ ap (λ (b : Bool). b || meets_any e (seen_of (k - 1) i)) q
 
-  pub any_next : meets e (image_entry_at (k - 1) i) ≡ false → meets_any e (seen_of k i) ≡ meets_any e (seen_of (k - 1) i)
+  pub any_next : meets e (image_entry_at (k - 1) i) ≡ false
+      → meets_any e (seen_of k i) ≡ meets_any e (seen_of (k - 1) i)
   any_next q = any_split ∙ ap (λ (b : Bool). b || meets_any e (seen_of (k - 1) i)) q
 
 pub any_none : (e : ImageEntry) (k : ℕ) (i : List ℕ) → k ≤ 0 → meets_any e (seen_of k i) ≡ false
@@ -102,7 +78,8 @@ module _ (words k n : ℕ) (i : List ℕ) where
       (entries_answer words x (rest_of (k + 1) n i))) (sym (seen_next k i))
 
   pub entries_pass : k < n → entry_answer words (seen_of k i) (image_entry_at k i) ≡ Done
-      → entries_answer words (seen_of k i) (rest_of k n i) ≡ entries_answer words (seen_of (k + 1) i) (rest_of (k + 1) n i)
+      → entries_answer words (seen_of k i) (rest_of k n i)
+      ≡ entries_answer words (seen_of (k + 1) i) (rest_of (k + 1) n i)
   entries_pass h e =
       at_k h ∙ ap (λ (x : Answer). first_of x (entries_answer words (seen_of (k + 1) i) (rest_of (k + 1) n i))) e
 

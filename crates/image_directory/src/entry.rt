@@ -44,6 +44,7 @@ pub fn entry_count(image: &[u16]) -> usize
 }
 
 // Entry k.
+#[tactic(auto, using(crate::proofs::Entries::entry_read))]
 pub fn entry_at(image: &[u16], k: usize) -> Span
     requires { k * 5 + 6 ≤ length image.now }
     ensures { span_entry result ≡ image_entry_at k image.now }
@@ -57,6 +58,7 @@ pub fn entry_at(image: &[u16], k: usize) -> Span
 }
 
 // Refusal 4: the contents are short or over 32 entries.
+#[tactic(auto, unfolding(isa::specs::Images::contents_fit))]
 pub fn contents_fit(image: &[u16]) -> bool
     ensures { result ≡ contents_fit image.now }
 {

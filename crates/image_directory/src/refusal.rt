@@ -51,6 +51,7 @@ fn size_of(words: usize, k: u16) -> usize
 }
 
 // Refusals 5 and 6 of an entry, beside so many words of memory.
+#[tactic(auto, unfolding(crate::specs::Listing::target_answer))]
 fn target_answer(e: Span, words: usize) -> Answer
     ensures { result ≡ target_answer words (span_entry e) }
 {
@@ -64,6 +65,7 @@ fn target_answer(e: Span, words: usize) -> Answer
 }
 
 // Whether two entries cover one word.
+#[tactic(auto, unfolding(isa::specs::Images::meets))]
 fn meets(a: Span, b: Span) -> bool
     ensures { result ≡ meets (span_entry a) (span_entry b) }
 {
@@ -83,6 +85,7 @@ fn meets(a: Span, b: Span) -> bool
 }
 
 // Whether an entry covers a word that one of the first n covers.
+#[tactic(auto, using(crate::proofs::Listed::any_found, crate::proofs::Listed::any_next, crate::proofs::Listed::any_none))]
 fn meets_any(image: &[u16], n: usize, e: Span) -> bool
     requires { n * 5 + 1 ≤ length image.now }
     ensures { result ≡ meets_any (span_entry e) (seen_of n image.now) }
@@ -99,6 +102,7 @@ fn meets_any(image: &[u16], n: usize, e: Span) -> bool
 }
 
 // Refusal 7 of an entry after the first n.
+#[tactic(auto, unfolding(crate::specs::Listing::overlap_answer))]
 fn overlap_answer(image: &[u16], n: usize, e: Span) -> Answer
     requires { n * 5 + 1 ≤ length image.now }
     ensures { result ≡ overlap_answer (seen_of n image.now) (span_entry e) }
@@ -121,6 +125,7 @@ fn entry_answer(image: &[u16], k: usize, words: usize) -> Answer
 }
 
 // Refusals 5, 6 and 7, entry by entry.
+#[tactic(auto, using(crate::proofs::Listed::entries_pass, crate::proofs::Listed::entries_end, crate::proofs::Listed::entries_start))]
 fn entries_answer(image: &[u16], n: usize, words: usize) -> Answer
     requires { n * 5 + 1 ≤ length image.now }
     ensures { result ≡ entries_answer words [] (entries_of n (drop 1 image.now)) }
@@ -137,6 +142,7 @@ fn entries_answer(image: &[u16], n: usize, words: usize) -> Answer
 }
 
 // The words that the entries name in all.
+#[tactic(auto, using(crate::proofs::Entries::named_next, crate::proofs::Entries::named_end, crate::proofs::Entries::rest_start))]
 fn named_words(image: &[u16], n: usize) -> usize
     requires n_in_bounds { n * 5 + 1 ≤ length image.now }
     requires n_bound { n ≤ 32 }
@@ -153,6 +159,7 @@ fn named_words(image: &[u16], n: usize) -> usize
 }
 
 // Refusal 8: bodies other than exactly the rest.
+#[tactic(auto, using(crate::proofs::Listed::body_done, crate::proofs::Listed::body_differs))]
 fn body_answer(image: &[u16], n: usize) -> Answer
     requires n_in_bounds { n * 5 + 1 ≤ length image.now }
     requires n_bound { n ≤ 32 }
@@ -165,6 +172,7 @@ fn body_answer(image: &[u16], n: usize) -> Answer
 }
 
 // Refusals 5 to 8 of an image whose contents fit, beside so many words of memory.
+#[tactic(auto, using(crate::proofs::Entries::contents_some, crate::proofs::Entries::contents_few, crate::proofs::Entries::contents_whole), unfolding(crate::specs::Listing::list_answer))]
 pub fn list_answer(image: &[u16], words: usize) -> Answer
     requires { contents_fit image.now ≡ true }
     ensures { result ≡ list_answer words image.now }

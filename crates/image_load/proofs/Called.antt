@@ -119,7 +119,8 @@ module _ (s : State) (i m t : List ℕ) where
       whole : Bool → Bool → Answer → Answer
       whole a b x = cond (not a) (Refused Sizes) (cond (not b) (Refused Contents) (first_of x body))
 
-      go : (a b : Bool) (x : Answer) → first_of (whole a b x) (range_answer (by_answer (whole a b x) (loaded_state i) s))
+      go : (a b : Bool) (x : Answer)
+          → first_of (whole a b x) (range_answer (by_answer (whole a b x) (loaded_state i) s))
           ≡ cond (not a) (Refused Sizes) (cond (not b) (Refused Contents) (bodies_answer i x))
       go false b x = refl
       go true false x = refl

@@ -2,14 +2,13 @@
 -- Assumes nothing.
 use Prim.Native.Nat.{ℕ, ◌+◌, ◌*◌, ◌≤◌, ◌<◌}
 use mathlib.Core.Path.{◌≡◌, sym, ap, subst, ◌∙◌}
-use mathlib.Core.Bool.{Bool, cond}
+use mathlib.Core.Bool.{cond}
 use mathlib.Core.List.{List, ◌∷◌, ◌++◌, append-nil}
 use native.Mathlib.Omega.{arith}
 use native.Mathlib.Nat.{le_of_eq, zero-add}
 use lib.ListN.{length, get_or, take, drop, length-drop, drop_of_length-le}
 use lib.Seq.{paste, take_all, drop-drop}
 use lib.Dec.{eqb}
-use borrow.Author.Tests.{eq-eqb}
 use Rattle.isa.specs.Images.{ImageEntry, entries_of, named_words, placed, contents, bodies}
 use Rattle.image_directory.specs.Entries.{image_entry_at, rest_of}
 use Rattle.image_directory.proofs.Entries.{rest_next, rest_end, rest_start, named_next}
@@ -65,16 +64,9 @@ body_lies k size j n at i e h q a p = (
   subst (λ (x : ImageEntry). x.kind ≡ k → x.start + x.count ≤ size) (sym q) (inside_this k size j n i h p),
 )
   where
-    within : (x : ℕ) → named_words (rest_of j n i) ≡ (image_entry_at j i).count + x → at + (image_entry_at j i).count ≤ length i
+    within : (x : ℕ) → named_words (rest_of j n i) ≡ (image_entry_at j i).count + x
+        → at + (image_entry_at j i).count ≤ length i
     within x l = omega arith
-
--- an entry's body, copied
-pub one_placed : (k s n at x a b : ℕ) (i d d' : List ℕ) → x ≡ k → a ≡ s → b ≡ n → d' ≡ paste d a (drop at i) b
-    → d' ≡ cond (eqb x k) (paste d s (drop at i) n) d
-one_placed k s n at x a b i d d' e p q h =
-    h
-    ∙ (λ j. paste d (p j) (drop at i) (q j))
-    ∙ sym (ap (λ (y : Bool). cond y (paste d s (drop at i) n) d) (eq-eqb x k e))
 
 -- the first n words, copied over n others
 pub copied_front : (n : ℕ) (w z : List ℕ) → length z ≡ n → paste z 0 w n ≡ take n w

@@ -13,7 +13,8 @@ use Rattle.image_load.specs.declared.LoadResult.{LoadResult}
 -- all refusals but 2; 2
 unfoldable pub image_answer : List ℕ → List ℕ → List ℕ → Answer
 image_answer i m t =
-    cond (not (sizes_fit m t)) (Refused Sizes) (cond (not (contents_fit i)) (Refused Contents) (list_answer (length m) i))
+    cond (not (sizes_fit m t)) (Refused Sizes)
+    (cond (not (contents_fit i)) (Refused Contents) (list_answer (length m) i))
 
 unfoldable pub range_answer : State → Answer
 range_answer s = cond (not (in_range s)) (Refused StateRange) Done

@@ -19,7 +19,7 @@ use words::{clear, copy};
 // An entry's body, which starts at word `at`, if it is of the kind.
 fn place_one(kind: u16, e: Span, image: &[u16], at: usize, target: &mut [u16])
     requires count_in_bounds { at + e.count ≤ length image.now }
-    requires count_in_bounds_2 { e.kind ≡ kind → e.start + e.count ≤ length target.old }
+    requires target_in_bounds { e.kind ≡ kind → e.start + e.count ≤ length target.old }
     ensures { target.new
         ≡ cond (eqb e.kind kind) (paste target.old e.start (drop at image.now) e.count)
         target.old }
@@ -50,6 +50,7 @@ fn place(kind: u16, image: &[u16], n: usize, target: &mut [u16])
 }
 
 // All words of a kind: those not named are 0.
+#[tactic(auto, unfolding(isa::specs::Images::loaded_words))]
 pub fn fill(kind: u16, image: &[u16], target: &mut [u16])
     requires { Placeable kind (length target.old) image.now }
     ensures { target.new ≡ loaded_words kind (length target.old) image.now }
@@ -114,6 +115,7 @@ pub fn control_of(words: &[u16], devices: &[u16]) -> Control
 }
 
 // The PCRs, of all control words in image order.
+#[tactic(auto, using(crate::proofs::Placed::copied_front))]
 pub fn pcrs_of(words: &[u16]) -> Pcrs
     requires { length words.now ≡ control_count }
     ensures { result ≡ (state_of [] words.now []).pcr }
@@ -148,9 +150,9 @@ pub fn state_in(words: &[u16]) -> State
 
 // The state that an image has.
 pub fn loaded_state(image: &[u16]) -> State
-    requires placeable { Placeable kind_registers register_words image.now }
-    requires placeable_2 { Placeable kind_control control_count image.now }
-    requires placeable_3 { Placeable kind_devices device_count image.now }
+    requires registers_placeable { Placeable kind_registers register_words image.now }
+    requires control_placeable { Placeable kind_control control_count image.now }
+    requires devices_placeable { Placeable kind_devices device_count image.now }
     ensures { result ≡ loaded_state image.now }
 {
     let mut regs = [0u16; REGISTER_WORDS];

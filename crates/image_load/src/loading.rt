@@ -15,6 +15,7 @@ use isa::answer::{Answer, Refusal};
 use isa::machine::State;
 
 // Refusals 1 and 4 to 8.
+#[tactic(auto, unfolding(crate::specs::Loading::image_answer))]
 pub fn image_answer(image: &[u16], mem: &[u16], tables: &[u16]) -> Answer
     ensures { result ≡ image_answer image.now mem.now tables.now }
 {
@@ -28,6 +29,7 @@ pub fn image_answer(image: &[u16], mem: &[u16], tables: &[u16]) -> Answer
 }
 
 // Refusal 2.
+#[tactic(auto, unfolding(crate::specs::Loading::range_answer))]
 pub fn range_answer(s: State) -> Answer
     ensures { result ≡ range_answer s }
 {

@@ -2,7 +2,7 @@
 -- Assumes nothing.
 use Rattle.isa.specs.Machine.{first_device, largest_memory, table_words}
 use Rattle.isa.specs.Devices.{device_count, device_words}
-use Prim.Native.Nat.{ℕ, ◌+◌, ◌≤◌, ◌<◌}
+use Prim.Native.Nat.{ℕ, ◌+◌, ◌≤◌}
 use mathlib.Core.Path.{◌≡◌, refl, sym, ap, ◌∙◌}
 use mathlib.Core.Bool.{Bool, true, false, cond}
 use mathlib.Core.List.{List, [], ◌++◌, append_assoc}
@@ -10,7 +10,7 @@ use native.Mathlib.Omega.{arith}
 use lib.ListN.{length, drop, length-append}
 use lib.Seq.{paste}
 use lib.Dec.{ltb}
-use borrow.Author.Tests.{lt-ltb, le-ltb, ltb-false}
+use borrow.Author.Tests.{ltb-false}
 use Rattle.isa.specs.Machine.{control_words}
 use Rattle.isa.specs.Images.{beside_memory, contents_size, contents_words, image_of, image_size}
 use Rattle.isa.specs.Answers.{state_answer, output_answer, write_answer, written_by, written_output}
@@ -64,7 +64,8 @@ image_put s m t o d e f g n hm hw ht hd he hf hg =
     let q : n + table_place + table_words ≡ n + device_place = omega arith in
     let r : n + device_place + device_count ≡ n + beside_memory = omega arith in
     let x : e ≡ ((c ++ m) ++ w) ++ drop (n + table_place) o =
-    he ∙ joined (c ++ m) w o d (n + contents_size) first_device a hw hd ∙ ap (λ (z : ℕ). ((c ++ m) ++ w) ++ drop z o) p in
+    he ∙ joined (c ++ m) w o d (n + contents_size) first_device a hw hd
+    ∙ ap (λ (z : ℕ). ((c ++ m) ++ w) ++ drop z o) p in
     let y : f ≡ (((c ++ m) ++ w) ++ t) ++ drop (n + device_place) o =
     hf
     ∙ joined ((c ++ m) ++ w) t o e (n + table_place) table_words b ht x
@@ -77,14 +78,6 @@ image_put s m t o d e f g n hm hw ht hd he hf hg =
     ∙ ap (λ (z : List ℕ). c ++ (m ++ z)) (append_assoc s.regs (control_words s) (t ++ v)))
 
 -- ---- the answer
-
-pub no_room : (words size : ℕ) → size < words + beside_memory → Refused Output ≡ room_answer words size
-unfolding room_answer
-no_room words size h = simp (lt-ltb size (words + beside_memory) h)
-
-pub room : (words size : ℕ) → words + beside_memory ≤ size → Done ≡ room_answer words size
-unfolding room_answer
-room words size h = simp (le-ltb size (words + beside_memory) h)
 
 module _ (s : State) (m t out : List ℕ) (a : Answer)
     (g : a ≡ first_of (state_answer s m t) (room_answer (length m) (length out))) where

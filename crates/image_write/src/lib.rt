@@ -201,6 +201,7 @@ pub fn put_image(s: State, mem: &[u16], tables: &[u16], out: &mut [u16])
 }
 
 // Refusal 10: an output of so many words is too short for an image of so much memory.
+#[tactic(auto, unfolding(crate::specs::Writing::room_answer))]
 fn room_answer(words: usize, size: usize) -> Answer
     ensures { result ≡ room_answer words size }
 {
@@ -224,6 +225,7 @@ pub fn write_answer(s: State, mem: &[u16], tables: &[u16], size: usize) -> Answe
 }
 
 // The machine as an image. Refusals 1, 2 and 10, a short output, leave the output; words past the image stay.
+#[tactic(auto, using(crate::proofs::Written::write_needs))]
 pub fn write(s: State, mem: &[u16], tables: &[u16], out: &mut [u16]) -> Answer
     ensures value { result ≡ write_answer s mem.now tables.now out.old }
     ensures out_after { out.new ≡ written_output s mem.now tables.now out.old }

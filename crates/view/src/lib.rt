@@ -11,6 +11,7 @@ use isa::answer::{Answer, Refusal, Target};
 mod parts;
 
 // A part of the lent memory or of the lent page tables; a refused view is empty.
+#[tactic(auto, unfolding(isa::specs::Answers::viewed, isa::specs::Answers::view_answer, crate::specs::Parts::part_of))]
 pub fn view<'a>(
     kind: Target,
     start: usize,
@@ -30,6 +31,7 @@ pub fn view<'a>(
 }
 
 // Refusal 1, sizes; refusal 9, a part beyond the end.
+#[tactic(auto, unfolding(isa::specs::Answers::view_answer, crate::specs::Parts::part_answer))]
 pub fn view_answer(kind: Target, start: usize, len: usize, mem: &[u16], tables: &[u16]) -> Answer
     ensures { result ≡ view_answer kind start len mem.now tables.now }
 {

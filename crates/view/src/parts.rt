@@ -5,6 +5,7 @@ ghost use Rattle.view.specs.Parts.{part_of, part_answer};
 use isa::answer::{Answer, Refusal};
 
 // The words from start on, len of them; none where there are not so many.
+#[tactic(auto, unfolding(crate::specs::Parts::part_of))]
 pub fn part(s: &[u16], start: usize, len: usize) -> &[u16]
     ensures { result.now ≡ part_of s.now start len }
 {
@@ -18,6 +19,7 @@ pub fn part(s: &[u16], start: usize, len: usize) -> &[u16]
 }
 
 // Refusal 9 of a part of so many words.
+#[tactic(auto, unfolding(crate::specs::Parts::part_answer))]
 pub fn part_answer(size: usize, start: usize, len: usize) -> Answer
     ensures { result ≡ part_answer size start len }
 {

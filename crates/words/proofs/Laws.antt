@@ -1,12 +1,12 @@
--- A copy one word further on, and the last word cleared.
+-- A copy one word further on.
 -- Assumes nothing.
 use Prim.Native.Nat.{ℕ, ◌+◌, ◌<◌}
 use mathlib.Core.Path.{◌≡◌, sym, ap, ◌∙◌}
-use mathlib.Core.List.{List, ◌++◌, append-nil}
+use mathlib.Core.List.{List}
 use native.Mathlib.Omega.{arith}
 use native.Mathlib.Numerals.{add-one}
-use lib.ListN.{length, get_or, set, drop, replicate, length-drop}
-use lib.Seq.{paste, paste-suc, get_or-drop, drop-length}
+use lib.ListN.{length, get_or, set, drop, length-drop}
+use lib.Seq.{paste, paste-suc, get_or-drop}
 
 -- one store more
 pub copy_more : (d s : List ℕ) (at skip i : ℕ) → at + i < length d → skip + i < length s
@@ -15,7 +15,3 @@ copy_more d s at skip i hd hs =
     ap (λ (v : ℕ). set (paste d at (drop skip s) i) (at + i) v) (sym (get_or-drop skip s i 0))
     ∙ paste-suc d at (drop skip s) i 0 hd (simp length-drop (omega arith))
     ∙ ap (paste d at (drop skip s)) (sym (add-one i))
-
--- every word cleared
-pub cleared : (i v : ℕ) (d : List ℕ) → i ≡ length d → replicate i v ++ drop i d ≡ replicate (length d) v
-cleared i v d e = simp (e, drop-length, append-nil)

@@ -5,9 +5,10 @@ ghost use Rattle.std.specs.Prelude.{◌≡◌, ◌+◌, ◌≤◌, length, drop,
 ghost use Rattle.std.proofs.Math.Seq.{paste};
 
 // The first n words of `from` past `skip`, to the n words of `to` at `at`.
+#[tactic(auto, using(crate::proofs::Laws::copy_more))]
 pub fn copy(to: &mut [u16], at: usize, from: &[u16], skip: usize, n: usize)
-    requires n_in_bounds { at + n ≤ length to.old }
-    requires n_in_bounds_2 { skip + n ≤ length from.now }
+    requires to_in_bounds { at + n ≤ length to.old }
+    requires from_in_bounds { skip + n ≤ length from.now }
     ensures { to.new ≡ paste to.old at (drop skip from.now) n }
 {
     let mut i = 0;
