@@ -9,7 +9,7 @@ use native.Mathlib.Nat.{le_of_eq, zero-add}
 use lib.ListN.{length, get_or, take, drop, length-append, length-take, length-drop, take-append-drop, drop_of_length-le}
 use lib.Seq.{paste, take_all, take_at, length-take-le, get_or-take, get_or-drop}
 use lib.Dec.{eqb}
-use borrow.Author.Tests.{eq-eqb, ne_eqb}
+use borrow.Author.Tests.{eq-eqb}
 use Rattle.isa.specs.Machine.{register_words, control_count, state_words, control_of, state_with, state_in, state_ordered}
 use Rattle.isa.specs.Answers.{run_number, state_answer, StepCall, step_call_by, step_call, view_answer}
 use Rattle.isa.specs.Answers.{viewed_by, viewed, target_of}
@@ -63,26 +63,14 @@ viewed_most k a n m t = go (view_answer k a n m t)
 
 -- ---- what a call leaves
 
--- an operation that was refused, and one that was done, by the number k that the code has as n
+-- an operation that was done, by the number k that the code has as n
 module _ (n k : ℕ) (s : State) (m t x w y : List ℕ) (e : n ≡ k) where
-  pub ended_refused : (n ≡ 0 → ⊥) → left_of n w m t y ≡ call_end k s m t x w y
-  unfolding call_end
-  ended_refused h =
-      (λ i. left_of n (cond (sym (ne_eqb n 0 h) i) (state_ordered s) w) m t (cond (sym (ne_eqb n 0 h) i) x y))
-      ∙ ap (λ (j : ℕ). call_end j s m t x w y) e
-
   pub ended_done : (v z : List ℕ) → n ≡ 0 → v ≡ state_ordered s → z ≡ x → left_of 0 v m t z ≡ call_end k s m t x w y
   unfolding call_end
   ended_done v z h hv hz =
       (λ i. left_of (sym h i) (hv i) m t (hz i))
       ∙ (λ i. left_of n (cond (sym (eq-eqb n 0 h) i) (state_ordered s) w) m t (cond (sym (eq-eqb n 0 h) i) x y))
       ∙ ap (λ (j : ℕ). call_end j s m t x w y) e
-
--- words that are no state
-pub called_badly : (w m t y : List ℕ) (l : Left) → (length w ≡ state_words → ⊥)
-    → left_of bad_call w m t y ≡ called w m t y l
-unfolding called
-called_badly w m t y l h = ap (λ (b : Bool). cond b l (left_of bad_call w m t y)) (sym (ne_eqb (length w) state_words h))
 
 -- the words' state s, an operation that gave r, and what was left by it
 pub called_well : {C : Type 0} (call : State → C) (end : C → Left) (w m t y : List ℕ) (s : State) (r : C) (l : Left)
@@ -95,15 +83,6 @@ called_well call end w m t y s r l h given gave left =
     ∙ ap (λ (b : Bool). cond b x (left_of bad_call w m t y)) (sym (eq-eqb (length w) state_words h))
 
 -- ---- a run with device input
-
--- lists of inputs of different lengths
-pub input_badly : (w m t y : List ℕ) (x : Left) (b : Bool) → length w ≡ state_words → b ≡ false
-    → left_of bad_call w m t y ≡ called w m t y (cond b x (left_of bad_call w m t y))
-unfolding called
-input_badly w m t y x b h e =
-    let bad = left_of bad_call w m t y in
-    ap (λ (v : Bool). cond v x bad) (sym e)
-    ∙ ap (λ (v : Bool). cond v (cond b x bad) bad) (sym (eq-eqb (length w) state_words h))
 
 -- what it leaves, by the number n: the words told begin with those of the inputs handed in, h of them; a refused run
 -- has none
@@ -142,7 +121,8 @@ refused_tells_none n gs s m t r e = go (state_answer s m t) e
 
 -- a refused step left the registers, so the words are as they came; one that was done leaves none of the old words
 step_ends : (s : State) (w m t y : List ℕ) → s.regs ≡ take register_words w
-    → step_end ((step_call s m t).state.regs ++ drop register_words w) y (step_call s m t) ≡ step_end w y (step_call s m t)
+    → step_end ((step_call s m t).state.regs ++ drop register_words w) y (step_call s m t)
+    ≡ step_end w y (step_call s m t)
 unfolding step_call call_end
 step_ends s w m t y e = go (state_answer s m t)
   where

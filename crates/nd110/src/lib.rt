@@ -60,6 +60,7 @@ fn tell_interrupt(a: StepAnswer, interrupt: &mut u16) -> u16
 }
 
 // What a step of the lent words left beside their registers, to those words.
+#[tactic(auto, unfolding(crate::specs::Calls::call_end))]
 fn tell_step(r: StepEnd, pcrs: &[u16], state: &mut [u16], interrupt: &mut u16) -> u16
     requires pcrs_len { length pcrs.now ≡ level_count }
     requires state_len { length state.old ≡ state_words }
@@ -81,6 +82,7 @@ fn tell_step(r: StepEnd, pcrs: &[u16], state: &mut [u16], interrupt: &mut u16) -
 }
 
 // One step, on the lent words themselves. `interrupt` gets the interrupt's number, 0 if none.
+#[tactic(auto, unfolding(crate::specs::Calls::called))]
 #[unsafe(no_mangle)]
 pub extern "C" fn nd110_step(
     state: &mut [u16],
@@ -135,6 +137,7 @@ fn reason_given(a: RunAnswer) -> u16
 }
 
 // What a run answered, to the lent words.
+#[tactic(auto, unfolding(crate::specs::Calls::call_end))]
 fn tell(
     r: RunResult,
     state: &mut [u16],
@@ -173,6 +176,7 @@ fn run_by(s: State, mem: &mut [u16], tables: &mut [u16], n: u64, first: bool) ->
 }
 
 // Either run of the words' state.
+#[tactic(auto, unfolding(crate::specs::Calls::called))]
 fn run_words(
     state: &mut [u16],
     mem: &mut [u16],
@@ -235,6 +239,7 @@ pub extern "C" fn nd110_run_to_interrupt(
 }
 
 // What an operation answered that tells no more, and the state that it left, to the lent words.
+#[tactic(auto, unfolding(crate::specs::Calls::call_end))]
 fn tell_answer(a: Answer, after: State, state: &mut [u16]) -> u16
     requires { length state.old ≡ state_words }
     ensures { (m t : List ℕ)
@@ -249,6 +254,7 @@ fn tell_answer(a: Answer, after: State, state: &mut [u16]) -> u16
 }
 
 // A device's interrupt.
+#[tactic(auto, unfolding(crate::specs::Calls::called))]
 #[unsafe(no_mangle)]
 pub extern "C" fn nd110_raise(state: &mut [u16], level: u16, mem: &[u16], tables: &[u16]) -> u16
     ensures { left_of result state.new mem.now tables.now []
@@ -275,6 +281,7 @@ pub extern "C" fn nd110_raise_lent(m: &mut State, level: u16, mem: &[u16], table
 }
 
 // The real-time clock's pulse.
+#[tactic(auto, unfolding(crate::specs::Calls::called))]
 #[unsafe(no_mangle)]
 pub extern "C" fn nd110_tick(state: &mut [u16], mem: &[u16], tables: &[u16]) -> u16
     ensures { left_of result state.new mem.now tables.now []
@@ -290,6 +297,7 @@ pub extern "C" fn nd110_tick(state: &mut [u16], mem: &[u16], tables: &[u16]) -> 
 }
 
 // A character typed at the terminal.
+#[tactic(auto, unfolding(crate::specs::Calls::called))]
 #[unsafe(no_mangle)]
 pub extern "C" fn nd110_type(state: &mut [u16], character: u8, mem: &[u16], tables: &[u16]) -> u16
     ensures { left_of result state.new mem.now tables.now []
@@ -305,6 +313,7 @@ pub extern "C" fn nd110_type(state: &mut [u16], character: u8, mem: &[u16], tabl
 }
 
 // What a read out answered, and the state that it left, to the lent words.
+#[tactic(auto, unfolding(crate::specs::Calls::call_end))]
 fn tell_character(r: ReadOutResult, state: &mut [u16], character: &mut u16) -> u16
     requires { length state.old ≡ state_words }
     ensures { (m t : List ℕ)
@@ -323,6 +332,7 @@ fn tell_character(r: ReadOutResult, state: &mut [u16], character: &mut u16) -> u
 }
 
 // The character sent last, once: `character` gets it, or 256 for none.
+#[tactic(auto, unfolding(crate::specs::Calls::called))]
 #[unsafe(no_mangle)]
 pub extern "C" fn nd110_read_out(
     state: &mut [u16],
@@ -373,6 +383,7 @@ fn tell_input(
 // At most n steps, up to the first that gives an interrupt, or before a change of level, with device input: the input
 // what[i] after at[i] steps, and to told[i] what it was told; the three lists have one length. `handed` gets how many
 // were handed in, `steps` the steps taken, `reason` the reason's number, `references` the memory references made.
+#[tactic(auto, unfolding(crate::specs::Calls::called))]
 #[unsafe(no_mangle)]
 pub extern "C" fn nd110_run_with_input(
     state: &mut [u16],
@@ -408,6 +419,7 @@ pub extern "C" fn nd110_run_with_input(
 }
 
 // The machine of an image.
+#[tactic(auto, unfolding(crate::specs::Calls::called))]
 #[unsafe(no_mangle)]
 pub extern "C" fn nd110_load(
     state: &mut [u16],
@@ -428,6 +440,7 @@ pub extern "C" fn nd110_load(
 }
 
 // The machine as an image; words of the output past it stay.
+#[tactic(auto, unfolding(crate::specs::Calls::host_write, crate::specs::Calls::host_written))]
 #[unsafe(no_mangle)]
 pub extern "C" fn nd110_write(state: &[u16], mem: &[u16], tables: &[u16], out: &mut [u16]) -> u16
     ensures value { result ≡ host_write state.now mem.now tables.now out.old }
@@ -450,6 +463,7 @@ fn known_target(kind: u16) -> bool
     kind == KIND_TABLES
 }
 
+#[tactic(auto, unfolding(crate::specs::Calls::target_named))]
 fn target_named(kind: u16) -> Target
     ensures { result ≡ target_named kind }
 {
@@ -460,6 +474,7 @@ fn target_named(kind: u16) -> Target
 }
 
 // The call beside view, which tells its number.
+#[tactic(auto, unfolding(crate::specs::Calls::host_view_answer))]
 #[unsafe(no_mangle)]
 pub extern "C" fn nd110_view_answer(
     kind: u16,
@@ -477,6 +492,7 @@ pub extern "C" fn nd110_view_answer(
 }
 
 // A part of memory or page tables, to the front of the output; words of the output past it stay.
+#[tactic(auto, using(crate::proofs::Laws::put_front, crate::proofs::Laws::viewed_most), unfolding(crate::specs::Calls::host_view, crate::specs::Calls::host_viewed))]
 #[unsafe(no_mangle)]
 pub extern "C" fn nd110_view<'a>(
     kind: u16,
@@ -508,6 +524,7 @@ const SHORT_WORDS: usize = 2;
 const LONG_WORDS: usize = 3;
 
 // A floating number of 32 bits, words A and D, to the output as one of 48, words T, A and D.
+#[tactic(auto, using(crate::proofs::Conversions::long_put, crate::proofs::Conversions::long_refused), unfolding(crate::specs::Calls::host_to_long))]
 #[unsafe(no_mangle)]
 pub extern "C" fn nd110_short_to_long(a: u16, d: u16, out: &mut [u16]) -> u16
     ensures { output_left result out.new ≡ host_to_long a d out.old }
@@ -527,6 +544,7 @@ pub extern "C" fn nd110_short_to_long(a: u16, d: u16, out: &mut [u16]) -> u16
 }
 
 // A floating number of 48 bits, words T, A and D, to the output as one of 32, words A and D.
+#[tactic(auto, using(crate::proofs::Conversions::short_put, crate::proofs::Conversions::short_refused), unfolding(crate::specs::Calls::host_to_short))]
 #[unsafe(no_mangle)]
 pub extern "C" fn nd110_long_to_short(t: u16, a: u16, d: u16, out: &mut [u16]) -> u16
     ensures { output_left result out.new ≡ host_to_short t a d out.old }

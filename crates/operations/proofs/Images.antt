@@ -11,7 +11,6 @@ use Rattle.isa.specs.Machine.{Typed}
 use Rattle.isa.specs.Images.{image_of, image_size}
 use Rattle.isa.specs.Answers.{LoadCall, load_call, state_answer, output_answer, write_answer, written_output}
 use Rattle.isa.specs.declared.machine.State.{State}
-use Rattle.isa.specs.declared.answer.Refusal.{Refusal}
 use Rattle.isa.specs.declared.answer.Refusal.TheVariants.{Output}
 use Rattle.isa.specs.declared.answer.Answer.{Answer}
 use Rattle.isa.specs.declared.answer.Answer.TheVariants.{Done, Refused}
@@ -43,18 +42,6 @@ module _ (s : State) (m t o : List ℕ) (d : write_answer s m t o ≡ Done) wher
 
 -- the machine s, m, t written to the output o, which becomes o₁, for the machine s₀, m₀, t₀
 module _ (s : State) (m t o : List ℕ) (s₀ : State) (m₀ t₀ o₁ : List ℕ) (e : o₁ ≡ written_output s m t o) where
-  -- write is refused, and all stays
-  pub write_refused : (x : Refusal) → Refused x ≡ write_answer s m t o
-      → WrittenAndLoaded s m t o s₀ m₀ t₀ (Refused x) o₁
-      (record { answer = Refused x; state = s₀; memory = m₀; tables = t₀ })
-  write_refused x a = record {
-    answer = a;
-    output = e;
-    refused = λ y q. cc;
-    loaded = λ q. cc;
-    same = λ q hm ht. cc;
-  }
-
   -- the image, the first j words of the output, is loaded
   pub write_loaded : Typed s → Done ≡ write_answer s m t o → (j : ℕ) → j ≡ image_size m
       → (r : LoadCall) → r ≡ load_call s₀ (take j o₁) m₀ t₀ → WrittenAndLoaded s m t o s₀ m₀ t₀ Done o₁ r

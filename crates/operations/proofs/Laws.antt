@@ -1,31 +1,19 @@
 -- A level that is not refused; what is said of two machines; what calls tell.
 -- Assumes nothing.
 use Prim.Native.Nat.{ℕ}
-use mathlib.Core.Path.{◌≡◌, refl, sym, ap, subst, ◌∙◌}
-use mathlib.Core.Bool.{Bool, true, false, cond}
+use mathlib.Core.Path.{◌≡◌, sym, ap, subst, ◌∙◌}
+use mathlib.Core.Bool.{Bool}
 use mathlib.Core.List.{List}
-use Rattle.isa.specs.Answers.{level_answer, device_level, StepCall, step_call, RunCall, run_call, StateCall}
+use Rattle.isa.specs.Answers.{StepCall, step_call, RunCall, run_call, StateCall}
 use Rattle.isa.specs.Answers.{raise_call, LoadCall, load_call, answer_numbers, step_numbers, run_numbers, step_told, run_told}
 use Rattle.isa.specs.Answers.{raise_told, load_told, ReadOutCall, tick_call, type_call, read_out_call, sent_numbers, tick_told}
 use Rattle.isa.specs.Answers.{type_told, read_out_told}
 use Rattle.isa.specs.DeviceInput.{Given, InputRunCall, input_run_call, input_run_told}
 use Rattle.laws.proofs.Numbers.{calls_tell}
-use Rattle.isolation.specs.Statement.{Isolated, RefusedAlike}
+use Rattle.isolation.specs.Statement.{Isolated}
 use Rattle.isolation.proofs.Theorem.{isolation, refused_alike}
 use Rattle.operations.specs.Pair.{SideBySide}
-use Rattle.isa.specs.declared.answer.Answer.{Answer}
-use Rattle.isa.specs.declared.answer.Answer.TheVariants.{Done, Refused}
-use Rattle.isa.specs.declared.answer.Refusal.TheVariants.{RaiseLevel}
 use Rattle.isa.specs.declared.machine.State.{State}
-
--- a device's level
-pub device_of : (l : ℕ) (a : Answer) → level_answer l a ≡ Done → device_level l ≡ true
-device_of l Done = go (device_level l)
-  where
-    go : (b : Bool) → cond b Done (Refused RaiseLevel) ≡ Done → b ≡ true
-    go true e = refl
-    go false e = cc
-device_of l (Refused r) = λ e. cc
 
 -- two runs to the first interrupt with device input, side by side
 pub side_by_side : (s : State) (k : ℕ) (gs hs : List Given) (m t n u : List ℕ) (r q : InputRunCall)

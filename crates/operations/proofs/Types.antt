@@ -9,7 +9,7 @@ use mir.Val.{Val}
 use denote.Laws.{Is}
 use denote.Shadow.{shadow}
 use denote.Struct.Declared.{row}
-use borrow.Author.Rules.{length_unmapped, elem_fits_field}
+use borrow.Author.Rules.{elem_Fits}
 use Rattle.isa.specs.Devices.{device_words}
 use Rattle.isa.specs.Machine.{Words, Typed, added_words, control_words, control_of}
 use Rattle.isa.specs.declared.machine.State.{State}
@@ -37,7 +37,8 @@ scalar_list k =
     ∷ k.pgs
     ∷ []
 
-scalars_fit : (k : Scalars) (vs : List Val) → shadow (scalars.row.own_val (scalars-type.to k) vs) → Words (scalar_list k)
+scalars_fit : (k : Scalars) (vs : List Val) → shadow (scalars.row.own_val (scalars-type.to k) vs)
+    → Words (scalar_list k)
 scalars_fit k vs h =
     let w = scalar_list k in
     cons_words k.interrupts (drop 1 w) (omega arith)
@@ -55,7 +56,8 @@ added_fit : (a : Added) (vs : List Val) → shadow (added.row.own_val (added-typ
 added_fit a vs h =
     cons_words a.held (a.extended ∷ []) (omega arith) (cons_words a.extended [] (omega arith) nil_words)
 
-devices_fit : (d : Devices) (vs : List Val) → shadow (devices.row.own_val (devices-type.to d) vs) → Words (device_words d)
+devices_fit : (d : Devices) (vs : List Val) → shadow (devices.row.own_val (devices-type.to d) vs)
+    → Words (device_words d)
 devices_fit d vs h =
     let w = device_words d in
     cons_words d.clock.enabled (drop 1 w) (omega arith)
@@ -78,15 +80,15 @@ typed s vs h =
     let q = h.1.1 in
     let behind = q.1.1.1 in
     record {
-      regs_length = length_unmapped ℕ s.regs 128 q.0.1.0.1;
-      pcr_length = length_unmapped ℕ s.pcr 16 behind.0.1.0.1;
-      regs_words = λ i. (elem_fits_field w16 w16 s.regs q.0.0 i q.0.1.1 tt).fits;
+      regs_length = q.0.1.0.1;
+      pcr_length = behind.0.1.0.1;
+      regs_words = λ i. (elem_Fits w16 w16 s.regs q.0.0 i q.0.1.1 tt).fits;
       control_words_law =
           cons_words s.level (drop 1 (control_words s)) (omega arith)
           (append_words (scalar_list s.control) (s.pcr ++ added_words (control_of s))
           (scalars_fit s.control _ q.1.1.0)
           (append_words s.pcr (added_words (control_of s))
-          (λ i. (elem_fits_field w16 w16 s.pcr behind.0.0 i behind.0.1.1 tt).fits)
+          (λ i. (elem_Fits w16 w16 s.pcr behind.0.0 i behind.0.1.1 tt).fits)
           (added_fit s.added _ behind.1.0)));
       device_words_law = devices_fit s.devices _ behind.1.1.0;
     }

@@ -22,6 +22,7 @@ pub struct InputRunResult {
 // after at[i] steps, and what it was told is put to told[i]; the shortest of the three lists counts. An input is a
 // word: below 256 the level to raise, 256 a tick, 257 a read out, 512 + c the character c. It is told 0 or its refusal;
 // a read out the character, or 256 for none. Words of inputs not handed in stay. Refusals 1 and 2.
+#[tactic(auto, using(checks::proofs::Passed::run_needs))]
 pub fn run_with_input(
     s: State,
     mem: &mut [u16],

@@ -21,6 +21,7 @@ pub mod runs;
 pub mod step;
 
 // The machine of an image. Refusals 1, 4 to 8 and 2.
+#[tactic(auto, using(crate::proofs::Laws::load_told_law))]
 pub fn load(s: State, image: &[u16], mem: &mut [u16], tables: &mut [u16]) -> LoadResult
     ensures tables_after { call_of result mem.new tables.new
         ≡ load_call s image.now mem.old tables.old }
@@ -31,6 +32,7 @@ pub fn load(s: State, image: &[u16], mem: &mut [u16], tables: &mut [u16]) -> Loa
 }
 
 // The machine as an image. Refusals 1, 2 and 10; words past the image stay.
+#[tactic(auto, using(laws::proofs::Numbers::calls_tell))]
 pub fn write(s: State, mem: &[u16], tables: &[u16], out: &mut [u16]) -> Answer
     ensures value { result ≡ write_answer s mem.now tables.now out.old }
     ensures out_after { out.new ≡ written_output s mem.now tables.now out.old }
@@ -53,6 +55,7 @@ pub fn view<'a>(
 }
 
 // The call beside it, which tells the view's number. Refusals 1 and 9.
+#[tactic(auto, using(laws::proofs::Numbers::calls_tell))]
 pub fn view_answer(kind: Target, start: usize, len: usize, mem: &[u16], tables: &[u16]) -> Answer
     ensures value { result ≡ view_answer kind start len mem.now tables.now }
     ensures result_value { answer_numbers result ≡ view_told kind start len mem.now tables.now }

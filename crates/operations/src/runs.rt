@@ -16,6 +16,7 @@ pub struct RunResult {
 }
 
 // Either run: at most n steps, to the first interrupt or through. Refusals 1 and 2.
+#[tactic(auto, using(checks::proofs::Passed::run_needs))]
 pub fn run_by(s: State, mem: &mut [u16], tables: &mut [u16], n: u64, first: bool) -> RunResult
     ensures tables_after { run_of result mem.new tables.new
         ≡ run_call first n s mem.old tables.old }

@@ -14,6 +14,7 @@ pub struct StepResult {
 }
 
 // Refusals 1 and 2.
+#[tactic(auto, using(crate::proofs::Laws::step_told_law))]
 pub fn step(s: State, mem: &mut [u16], tables: &mut [u16]) -> StepResult
     ensures tables_after { step_of result mem.new tables.new
         ≡ step_call s mem.old tables.old }
