@@ -5,32 +5,33 @@ use floating::form::{Long, LongAnswer, Short, ShortAnswer};
 use floating::{long_to_short, short_to_long};
 use isa::answer::Refusal;
 use isa::number::refusal_number;
+use std::io;
 
-fn refused(x: Refusal) {
-    io::print_decimal(1, refusal_number(x) as u64);
-    io::write_all(1, b"\n");
+fn refused(rt: &impl Print, x: Refusal) -> io::Result<()> {
+    let n = refusal_number(x);
+    println!(rt; "{n}")
 }
 
 // The case at a place: words A and D of a short number.
-pub(crate) fn short(words: &[u64], at: usize) {
+pub(crate) fn short(rt: &impl Print, words: &[u64], at: usize) -> io::Result<()> {
     let s = Short {
         a: low(get(words, at, 1)),
         d: low(get(words, at, 2)),
     };
     match short_to_long(s) {
         LongAnswer::Converted(l) => {
-            io::write_all(1, b"0");
-            word(l.t);
-            word(l.a);
-            word(l.d);
-            io::write_all(1, b"\n");
+            print!(rt; "0")?;
+            word(rt, l.t)?;
+            word(rt, l.a)?;
+            word(rt, l.d)?;
+            println!(rt)
         }
-        LongAnswer::Refused(x) => refused(x),
+        LongAnswer::Refused(x) => refused(rt, x),
     }
 }
 
 // The case at a place: words T, A and D of a long number.
-pub(crate) fn long(words: &[u64], at: usize) {
+pub(crate) fn long(rt: &impl Print, words: &[u64], at: usize) -> io::Result<()> {
     let l = Long {
         t: low(get(words, at, 1)),
         a: low(get(words, at, 2)),
@@ -38,11 +39,11 @@ pub(crate) fn long(words: &[u64], at: usize) {
     };
     match long_to_short(l) {
         ShortAnswer::Converted(s) => {
-            io::write_all(1, b"0");
-            word(s.a);
-            word(s.d);
-            io::write_all(1, b"\n");
+            print!(rt; "0")?;
+            word(rt, s.a)?;
+            word(rt, s.d)?;
+            println!(rt)
         }
-        ShortAnswer::Refused(x) => refused(x),
+        ShortAnswer::Refused(x) => refused(rt, x),
     }
 }

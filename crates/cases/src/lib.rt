@@ -2,7 +2,7 @@
 // line (rust/second/NOTES.md has the format). No contract can say what is read and written.
 #![tactic(auto)]
 
-ghost use Rattle.std.specs.Prelude.{◌≡◌, ◌≤◌, length};
+ghost use Rattle.std.specs.Prelude.{◌≡◌, ◌≤◌, length, IfOk};
 
 use crate::base::{base_state, fill};
 use crate::change::change_all;
@@ -11,6 +11,8 @@ use crate::numbers::{get, numbers, wide, within};
 use crate::operation::act;
 use crate::show::show;
 use isa::constant::{FIRST_DEVICE, STATE_WORDS};
+use std::io;
+use std::io::Read;
 
 mod answer;
 mod base;
@@ -51,47 +53,74 @@ fn prepare(
 }
 
 // A case on lent words of its own sizes, and its answer's line.
-fn one(words: &[u64], at: usize, mem: &mut [u16], tables: &mut [u16], out: &mut [u16]) {
+fn one(
+    rt: &impl Print,
+    words: &[u64],
+    at: usize,
+    mem: &mut [u16],
+    tables: &mut [u16],
+    out: &mut [u16],
+) -> io::Result<()> {
     let mut flat = base_state();
     prepare(words, at, &mut flat, mem, tables);
     let told = act(words, at, &flat, mem, tables, out);
-    show(told, mem, tables);
+    show(rt, told, mem, tables)
 }
 
 // The machine's case at a place, on as much of memory and page tables as it names.
-fn sized(words: &[u64], at: usize, mem: &mut [u16], tables: &mut [u16], out: &mut [u16]) {
+fn sized(
+    rt: &impl Print,
+    words: &[u64],
+    at: usize,
+    mem: &mut [u16],
+    tables: &mut [u16],
+    out: &mut [u16],
+) -> io::Result<()> {
     let m = within(get(words, at, 2), mem);
     let t = within(get(words, at, 3), tables);
-    one(words, at, &mut mem[..m], &mut tables[..t], out);
+    one(rt, words, at, &mut mem[..m], &mut tables[..t], out)
 }
 
 // The case at a place: of two or three words a conversion of the floating forms, else one of the machine.
-fn case(words: &[u64], at: usize, mem: &mut [u16], tables: &mut [u16], out: &mut [u16]) {
+fn case(
+    rt: &impl Print,
+    words: &[u64],
+    at: usize,
+    mem: &mut [u16],
+    tables: &mut [u16],
+    out: &mut [u16],
+) -> io::Result<()> {
     let n = get(words, at, 0);
     if n == 2 {
-        short(words, at);
-        return;
+        return short(rt, words, at);
     }
     if n == 3 {
-        long(words, at);
-        return;
+        return long(rt, words, at);
     }
-    sized(words, at, mem, tables, out);
+    sized(rt, words, at, mem, tables, out)
 }
 
 // All cases, one after the other; each begins with the count of the numbers that follow.
-fn all(words: &[u64], count: usize, mem: &mut [u16], tables: &mut [u16], out: &mut [u16]) {
+fn all(
+    rt: &impl Print,
+    words: &[u64],
+    count: usize,
+    mem: &mut [u16],
+    tables: &mut [u16],
+    out: &mut [u16],
+) -> io::Result<()> {
     let mut at = 0;
     let mut turns: u32 = 0;
     while turns < 100000 {
         if count <= at {
-            return;
+            return Ok(());
         }
-        case(words, at, mem, tables, out);
+        case(rt, words, at, mem, tables, out)?;
         at = std::num::wrapping_add_usize(at, wide(get(words, at, 0)));
         at = std::num::wrapping_add_usize(at, 1);
         turns += 1;
     }
+    Ok(())
 }
 
 // Lent words, all 0. The lengths are what lending them as slices needs.
@@ -125,17 +154,33 @@ fn output_words() -> [u16; 70000]
     [0; 70000]
 }
 
-// Reads the cases and answers them; the bytes read.
-pub fn check() -> usize
-    ensures { result ≤ 524288 }
+// Reads until the buffer is full, the input ends or a read fails; the bytes read.
+fn read_full(from: &mut impl Read, to: &mut [u8]) -> usize
+    ensures { result ≤ length to.new }
+{
+    let mut done = 0;
+    while done < to.len() {
+        match from.read(&mut to[done..]) {
+            Ok(0) => break,
+            Ok(n) => done += n,
+            Err(_) => break,
+        }
+    }
+    done
+}
+
+// Reads the cases and answers them; the bytes read. The one error is that of a write that failed: the lines before it
+// are written, and of what is lent nothing is changed.
+pub fn check(rt: &(impl Input + Print)) -> io::Result<usize>
+    ensures { IfOk result (λ n. n ≤ 524288) }
 {
     let mut text = text_bytes();
     let mut words = case_numbers();
-    let n = io::read_full(0, &mut text);
+    let n = read_full(&mut rt.reader(), &mut text);
     let count = numbers(&text[..n], &mut words);
     let mut mem = memory_words();
     let mut tables = table_words();
     let mut out = output_words();
-    all(&words, count, &mut mem, &mut tables, &mut out);
-    n
+    all(rt, &words, count, &mut mem, &mut tables, &mut out)?;
+    Ok(n)
 }

@@ -1,5 +1,5 @@
 // Octal numbers in a text, and numbers by their place.
-ghost use Rattle.io.specs.Counts.{IsPrefixLen};
+ghost use Rattle.std.specs.Prelude.{◌≡◌, ◌≤◌, length, take};
 
 // How far the reading of a text has come: the numbers found, the one that is being read, and whether one is.
 #[derive(Clone, Copy)]
@@ -85,7 +85,8 @@ pub(crate) fn low(v: u64) -> u16 {
 
 // A number as a count of words, at most all of them.
 pub(crate) fn within(v: u64, words: &[u16]) -> usize
-    ensures { IsPrefixLen result words.now }
+    ensures in_bounds { result ≤ length words.now }
+    ensures taken { result ≡ length (take result words.now) }
 {
     let k = v as usize;
     if k <= words.len() {

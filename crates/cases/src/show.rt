@@ -4,6 +4,7 @@ ghost use Rattle.std.specs.Prelude.{◌<◌};
 use crate::answer::Told;
 use isa::constant::FILE_SIZE;
 use isa::machine::State;
+use std::io;
 
 // A checksum with one word more.
 fn added(h: u64, w: u16) -> u64
@@ -33,46 +34,30 @@ pub(crate) fn sum(words: &[u16]) -> u64
     sum_on(1, words)
 }
 
-fn digit(w: u16) -> u8 {
-    (48 + w % 8) as u8
-}
-
 // A word in octal.
-pub(crate) fn word(w: u16) {
-    io::write_all(
-        1,
-        &[
-            32,
-            digit(w / 32768),
-            digit(w / 4096),
-            digit(w / 512),
-            digit(w / 64),
-            digit(w / 8),
-            digit(w),
-        ],
-    );
+pub(crate) fn word(rt: &impl Print, w: u16) -> io::Result<()> {
+    print!(rt; " {w:06o}")
 }
 
 // A checksum in hexadecimal.
-fn checksum(h: u64) {
-    io::write_all(1, b" ");
-    io::print_hex(1, h, 8);
+fn checksum(rt: &impl Print, h: u64) -> io::Result<()> {
+    print!(rt; " {h:08x}")
 }
 
-fn number(n: u64) {
-    io::write_all(1, b" ");
-    io::print_decimal(1, n);
+fn number(rt: &impl Print, n: u64) -> io::Result<()> {
+    print!(rt; " {n}")
 }
 
 // The registers of the running level; a level out of range counts modulo 16.
-fn running(s: State) {
+fn running(rt: &impl Print, s: State) -> io::Result<()> {
     let regs = s.regs;
     let level = s.level as usize % 16;
     let mut i = 0;
     while i < FILE_SIZE {
-        word(regs[level * FILE_SIZE + i]);
+        word(rt, regs[level * FILE_SIZE + i])?;
         i += 1;
     }
+    Ok(())
 }
 
 // Of the control words and the devices' words in image order.
@@ -89,18 +74,19 @@ fn control_sum(s: State) -> u64
 
 // Refusal, answers, checksums of registers, control words with devices, page tables and memory, then level and
 // registers of the running level.
-pub(crate) fn show(told: Told, mem: &[u16], tables: &[u16]) {
+pub(crate) fn show(rt: &impl Print, told: Told, mem: &[u16], tables: &[u16]) -> io::Result<()> {
     let s = told.state;
     let regs = s.regs;
-    io::print_decimal(1, told.refusal);
-    number(told.first);
-    number(told.second);
-    number(told.third);
-    checksum(sum(&regs));
-    checksum(control_sum(s));
-    checksum(sum(tables));
-    checksum(sum(mem));
-    number(s.level as u64);
-    running(s);
-    io::write_all(1, b"\n");
+    let refusal = told.refusal;
+    print!(rt; "{refusal}")?;
+    number(rt, told.first)?;
+    number(rt, told.second)?;
+    number(rt, told.third)?;
+    checksum(rt, sum(&regs))?;
+    checksum(rt, control_sum(s))?;
+    checksum(rt, sum(tables))?;
+    checksum(rt, sum(mem))?;
+    number(rt, s.level as u64)?;
+    running(rt, s)?;
+    println!(rt)
 }

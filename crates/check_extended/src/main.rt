@@ -2,6 +2,9 @@
 // X, images, sizes and runs, in both modes.
 #![tactic(auto)]
 
-fn main() {
-    cases::check();
+use std::io;
+
+fn main(rt: HostRuntime) -> io::Result<()> {
+    cases::check(&rt)?;
+    Ok(())
 }

@@ -1,6 +1,9 @@
 // The second engine's cases of conversions between the floating forms.
 #![tactic(auto)]
 
-fn main() {
-    cases::check();
+use std::io;
+
+fn main(rt: HostRuntime) -> io::Result<()> {
+    cases::check(&rt)?;
+    Ok(())
 }

@@ -1,24 +1,12 @@
--- Words of bytes, and text put byte by byte.
+-- Words of bytes, and decimal digits.
 -- Assumes nothing.
-use Prim.Native.Nat.{ℕ, zero, suc, ◌+◌, ◌-◌, ◌*◌, ◌/◌, ◌%◌, ◌^◌, ◌≤◌, ◌<◌}
-use mathlib.Core.Path.{◌≡◌, refl, sym, ap, ◌∙◌, subst}
-use mathlib.Core.List.{List, [], ◌∷◌, ◌++◌, append_assoc, append-nil}
-use native.Mathlib.Omega.{arith}
-use native.Mathlib.Nat.{add-zero, pow-suc, one-le-pow, pow-le-pow_right}
-use native.Mathlib.Decide.{dec_lt}
-use native.Mathlib.Numerals.{add-one}
-use lib.ListN.{length, get_or, set, take, drop}
-use lib.Seq.{take-suc, take-suc-set, drop-cons, drop-length}
-use borrow.Author.Tests.{lt-ltb, le-ltb}
-use Rattle.isa.specs.Answers.{LoadCall, load_call}
-use Rattle.isa.specs.declared.answer.Answer.{Answer}
-use Rattle.isa.specs.declared.machine.State.{State}
-use Rattle.image_load.specs.Loading.{call_of}
-use Rattle.image_load.specs.declared.LoadResult.{LoadResult}
-use Rattle.turn_text.specs.Turn.{after_load, cleared_state, image_turned}
+use Rattle.std.proofs.Common.{◌≡◌, ℕ, zero, suc, ◌+◌, ◌*◌, ◌/◌, ◌%◌, ◌≤◌, ◌<◌, List, [], ◌∷◌, ◌++◌, length, get_or, take, set, refl, sym, ap, ◌∙◌, append-nil, add-one, arith, lt-ltb, le-ltb}
+use Rattle.std.proofs.Math.Nat.{mod-eq_of_lt}
+use Rattle.std.proofs.Math.Seq.{take-suc, take-suc-set}
 use Rattle.turn_text.specs.Bytes.{bytes_as_words}
-use Rattle.io.specs.Digits.{hex_digit_ascii, last_digits, IsDigitCount}
-use Rattle.turn_text.specs.Text.{decimal_before, decimal, octal, line, register_lines}
+use Rattle.std.specs.Fmt.{decimal as std-decimal}
+use Rattle.std.proofs.lemmas.Fmt.{decimal_from_prepends, length-decimal-le}
+use Rattle.turn_text.specs.Text.{decimal_before, decimal}
 
 -- ---- words
 
@@ -58,99 +46,21 @@ word_more bs ws i e h r =
     ∙ sym (take-suc (bytes_as_words bs) i 0 n)
     ∙ ap (λ (k : ℕ). take k (bytes_as_words bs)) (sym (add-one i))
 
--- ---- bytes put after a text
-
-pub put_none : (out : List ℕ) (at : ℕ) → take (at + 0) out ≡ take at out ++ []
-put_none out at = ap (λ (k : ℕ). take k out) (add-zero at) ∙ sym (append-nil (take at out))
-
-pub put_more : (before out bytes : List ℕ) (at i : ℕ) → take (at + i) out ≡ before ++ take i bytes → at + i < length out
-    → i < length bytes
-    → take (at + (i + 1)) (set out (at + i) (get_or bytes i 0)) ≡ before ++ take (i + 1) bytes
-put_more before out bytes at i e h j =
-    let v = get_or bytes i 0 in
-    let n : at + (i + 1) ≡ suc (at + i) = omega arith in
-    ap (λ (k : ℕ). take k (set out (at + i) v)) n
-    ∙ take-suc-set out (at + i) v h
-    ∙ ap (λ (x : List ℕ). x ++ (v ∷ [])) e
-    ∙ append_assoc before (take i bytes) (v ∷ [])
-    ∙ ap (λ (x : List ℕ). before ++ x) (sym (take-suc bytes i 0 j))
-    ∙ ap (λ (k : ℕ). before ++ take k bytes) (sym (add-one i))
-
 -- ---- decimal digits
 
--- the fewest digits that hold a number, and no fewer than one, are its decimal digits
-digits_before : (r k n : ℕ) (after : List ℕ) → IsDigitCount 10 1 n r → r ≤ k
-    → last_digits 10 r n ++ after ≡ decimal_before k n after
-digits_before zero k n after f h = absurd (omega (arith, f.0))
-digits_before (suc r) zero n after f h = absurd (omega arith)
-digits_before (suc zero) (suc k) n after f h =
-    let l : n < 10 = f.1 in
-    simp (lt-ltb (n % 10) 10 (omega arith), lt-ltb n 10 l)
-digits_before (suc (suc r)) (suc k) n after f h =
-    let i : suc (suc r) - 1 ≡ suc r = omega arith in
-    let j : r ≡ suc r - 1 = omega arith in
-    let u : 10 ^ suc r ≤ n = subst (λ (x : ℕ). 10 ^ x ≤ n) i (f.2 (omega arith)) in
-    let p : 10 ^ suc r ≡ 10 ^ r * 10 = pow-suc 10 r in
-    let q : 10 ^ suc (suc r) ≡ 10 ^ suc r * 10 = pow-suc 10 (suc r) in
-    let some : 0 < 10 ^ r = one-le-pow r 10 (omega arith) in
-    let l : 10 ≤ n = omega (arith, u, p, some) in
-    let less : n / 10 < 10 ^ suc r = omega (arith, f.1, q) in
-    let least : 10 ^ (suc r - 1) ≤ n / 10 = subst (λ (x : ℕ). 10 ^ x ≤ n / 10) j (omega (arith, u, p)) in
-    append_assoc (last_digits 10 (suc r) (n / 10)) (hex_digit_ascii (n % 10) ∷ []) after
-    ∙ digits_before (suc r) k (n / 10) (hex_digit_ascii (n % 10) ∷ after) (omega arith, less, λ _. least) (omega arith)
-    ∙ simp (lt-ltb (n % 10) 10 (omega arith), le-ltb n 10 l)
-
--- a number of 64 bits has 20 at most
-pub at_most_twenty : (r n : ℕ) → IsDigitCount 10 1 n r → n < 18446744073709551616 → r ≤ 20
-at_most_twenty r n f l = go (dec_lt 20 r)
-  where
-    go : Dec (20 < r) → r ≤ 20
-    go (no h) = omega arith
-    go (yes h) =
-        let u : 10 ^ (r - 1) ≤ n = f.2 (omega arith) in
-        let v : 10 ^ 20 ≤ 10 ^ (r - 1) = pow-le-pow_right {n = 10} (omega arith) {i = 20} {j = r - 1} (omega arith) in
-        absurd (omega (arith, u, v))
-
-pub decimal_digits : (r n : ℕ) → IsDigitCount 10 1 n r → r ≤ 20 → last_digits 10 r n ≡ decimal n
+-- std's digits of a number of 64 bits are at most 20, and those of the definition
+pub decimal_digits : (n : ℕ) → n < 18446744073709551616 → std-decimal n ≡ decimal n
 unfolding decimal
-decimal_digits r n f h = sym (append-nil (last_digits 10 r n)) ∙ digits_before r 20 n [] f h
+decimal_digits n small =
+    sym (append-nil (std-decimal n))
+    ∙ sym (decimal_from_prepends decimal_before (record { one = last_digit; more = digit_more }) 20 n [] small few)
+  where
+    few : length (std-decimal n) ≤ 20
+    few = length-decimal-le 20 n (omega arith) (omega arith) small
 
--- ---- what was put, after what was put before it
+    last_digit : (k m : ℕ) (after : List ℕ) → m < 10 → decimal_before (suc k) m after ≡ (48 + m) ∷ after
+    last_digit k m after l = simp (lt-ltb m 10 l, mod-eq_of_lt l)
 
-pub then : (x y z k l : List ℕ) → y ≡ x ++ k → z ≡ y ++ l → z ≡ x ++ (k ++ l)
-then x y z k l e f = f ∙ ap (λ (s : List ℕ). s ++ l) e ∙ append_assoc x k l
-
--- one register's line more, of those that are left
-pub line_more : (all text more names words : List ℕ) (i : ℕ) → i < length names → i < length words
-    → text ++ register_lines (drop i names) (drop i words) ≡ all
-    → more ≡ text ++ line (get_or names i 0 ∷ []) (octal (get_or words i 0))
-    → more ++ register_lines (drop (i + 1) names) (drop (i + 1) words) ≡ all
-line_more all text more names words i n w e f =
-    let l = line (get_or names i 0 ∷ []) (octal (get_or words i 0)) in
-    let next = register_lines (drop (suc i) names) (drop (suc i) words) in
-    ap (λ (k : ℕ). more ++ register_lines (drop k names) (drop k words)) (add-one i)
-    ∙ ap (λ (x : List ℕ). x ++ next) f
-    ∙ append_assoc text l next
-    ∙ (λ k. text ++ register_lines (sym (drop-cons names i 0 n) k) (sym (drop-cons words i 0 w) k))
-    ∙ e
-
--- none left
-pub lines_all : (all text names words : List ℕ) (i : ℕ) → i ≡ length names
-    → text ++ register_lines (drop i names) (drop i words) ≡ all
-    → text ≡ all
-lines_all all text names words i h e =
-    sym (append-nil text)
-    ∙ ap (λ (x : List ℕ). text ++ register_lines x (drop i words))
-    (sym (ap (λ (k : ℕ). drop k names) h ∙ drop-length names))
-    ∙ e
-
--- ---- an image loaded
-
--- what load answers and leaves decides
-pub loaded_by_law : (r : LoadResult) (m' t' i m t : List ℕ) (a : Answer) (s : State) → r.answer ≡ a
-    → call_of r m' t' ≡ load_call s i m t → s ≡ cleared_state
-    → after_load a (call_of r m' t') ≡ image_turned i m t
-unfolding image_turned
-loaded_by_law r m' t' i m t a s d e z =
-    ap (λ (x : Answer). after_load x (call_of r m' t')) (sym d)
-    ∙ ap (λ (c : LoadCall). after_load c.answer c) (e ∙ ap (λ (x : State). load_call x i m t) z)
+    digit_more : (k m : ℕ) (after : List ℕ) → 10 ≤ m
+        → decimal_before (suc k) m after ≡ decimal_before k (m / 10) ((48 + m % 10) ∷ after)
+    digit_more k m after l = simp (le-ltb m 10 l)

@@ -48,6 +48,7 @@ fn register(s: State, r: Register) -> u16
     0
 }
 
+#[tactic(auto, unfolding(isa::specs::Machine::file_at))]
 fn end_of(w: Reason, k: u64, s: State) -> End
     ensures { result ≡ end_of w k s }
 {
@@ -113,6 +114,7 @@ fn cleared() -> State
 }
 
 // At most 1,000 steps from a state.
+#[tactic(auto, unfolding(crate::specs::Turn::ran_from))]
 fn run_state(s: State, mem: &mut [u16], tables: &mut [u16]) -> Turned
     ensures { result ≡ ran_from s mem.old tables.old }
 {
@@ -126,6 +128,7 @@ fn run_state(s: State, mem: &mut [u16], tables: &mut [u16]) -> Turned
 }
 
 // An image loaded and run.
+#[tactic(auto, unfolding(crate::specs::Turn::image_turned))]
 fn run_image(image: &[u16], mem: &mut [u16], tables: &mut [u16]) -> Turned
     ensures { result ≡ image_turned image.now mem.old tables.old }
 {
@@ -140,6 +143,7 @@ fn run_image(image: &[u16], mem: &mut [u16], tables: &mut [u16]) -> Turned
 
 // An image in bytes, loaded into 16 cleared pages and run. More than 65,536 bytes or an odd count is refusal 8 before
 // all else.
+#[tactic(auto, unfolding(crate::specs::Turn::turned))]
 pub fn turn(input: &[u8]) -> Turned
     ensures { result ≡ turned input.now }
 {

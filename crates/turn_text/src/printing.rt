@@ -4,10 +4,10 @@ ghost use Rattle.turn_text.specs.Text.{ascii, decimal, octal, line, reason_name,
 ghost use Rattle.turn_text.specs.Text.{end_text, text_of};
 
 use crate::{End, Turned};
-use io::decimal;
 use isa::answer::Reason;
 use isa::machine::{File, Register};
 use isa::number::refusal_number;
+use itoa::Buffer;
 
 // Bytes after the first `at` of the text; the text's new length.
 fn put(bytes: &[u8], out: &mut [u8], at: usize) -> usize
@@ -24,6 +24,7 @@ fn put(bytes: &[u8], out: &mut [u8], at: usize) -> usize
 }
 
 // A name, a space, a value and the line's end.
+#[tactic(auto, unfolding(crate::specs::Text::line))]
 fn put_line(name: &[u8], value: &[u8], out: &mut [u8], at: usize) -> usize
     requires { at + length name.now + length value.now + 2 ≤ length out.old }
     ensures value { result ≡ at + length name.now + length value.now + 2 }
@@ -37,14 +38,14 @@ fn put_line(name: &[u8], value: &[u8], out: &mut [u8], at: usize) -> usize
 }
 
 // A number in decimal.
+#[tactic(auto, using(crate::proofs::Laws::decimal_digits))]
 fn put_number(name: &[u8], n: u64, out: &mut [u8], at: usize) -> usize
     requires { at + length name.now + 22 ≤ length out.old }
     ensures upper_bound { result ≤ at + length name.now + 22 }
     ensures out_after { take result out.new ≡ take at out.old ++ line name.now (decimal n) }
 {
-    let mut digits = [0u8; 20];
-    let k = decimal(n, &mut digits);
-    put_line(name, &digits[..k], out, at)
+    let mut digits = Buffer::new();
+    put_line(name, digits.format(n).as_bytes(), out, at)
 }
 
 fn put_register(name: &[u8], w: u16, out: &mut [u8], at: usize) -> usize
