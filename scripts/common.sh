@@ -10,12 +10,25 @@ root=$(cd "$(dirname "${BASH_SOURCE[0]}")/.." && pwd)
 cd "$root"
 programs=$root/rust/target/release
 crate=$(cat rust/nd110/archive)
-archive=target/staticlib/lib$crate.a
+archive=crates/$crate/out/lib$crate.a
+turn=crates/turn/out/turn
 
-# The static library, proved and built unless it is newer than every Rattle file.
+# is_old FILE: it is not there, or a Rattle file is newer.
+is_old() {
+    [ ! -f "$1" ] || [ -n "$(find crates crates.txt -name out -prune -o -type f -newer "$1" -print -quit)" ]
+}
+
+# The static library, proved and built unless it is newer than every Rattle file. `rt ci` takes it away.
 need_archive() {
-    if [ ! -f "$archive" ] || [ -n "$(find crates crates.txt -newer "$archive" -print -quit)" ]; then
-        rt staticlib "$crate" >&2
+    if is_old "$archive"; then
+        (cd "crates/$crate" && rt lib) >&2
+    fi
+}
+
+# The program turn, as `rt ci` leaves it, or else proved and built.
+need_turn() {
+    if is_old "$turn"; then
+        (cd crates/turn && rt run) <crates/turn/stdin >/dev/null
     fi
 }
 
