@@ -13,9 +13,10 @@ crate=$(cat rust/nd110/archive)
 archive=crates/$crate/out/lib$crate.a
 turn=crates/turn/out/turn
 
-# is_old FILE: it is not there, or a Rattle file is newer.
+# is_old FILE: it is not there, or what it is made of is newer: crates.txt, or in a crate a file or a folder but out.
 is_old() {
-    [ ! -f "$1" ] || [ -n "$(find crates crates.txt -name out -prune -o -type f -newer "$1" -print -quit)" ]
+    [ ! -f "$1" ] || [ crates.txt -nt "$1" ] ||
+        [ -n "$(find crates -mindepth 2 -name out -prune -o -newer "$1" -print -quit)" ]
 }
 
 # The static library, proved and built unless it is newer than every Rattle file. `rt ci` takes it away.
