@@ -1,11 +1,19 @@
 -- The input at the loop's place is one of the lists', which each of them has; the run goes on to its step.
-use Rattle.std.proofs.Common.{◌≡◌, suc, ◌<◌, List, ◌∷◌, length, get_or, take, drop, sym, refl, ap, ◌∙◌, arith}
+use Rattle.std.proofs.Common.{◌≡◌, ℕ, suc, ◌<◌, ◌≤◌, List, ◌∷◌, length, get_or, take, drop, sym, refl, ap, ◌∙◌, arith}
 use Rattle.isa.specs.Machine.{state_with}
-use Rattle.isa.specs.DeviceInput.{Given, input_call, input_of, given_of}
+use Rattle.isa.specs.DeviceInput.{input_call, input_of, given_of}
 use Rattle.isa.specs.declared.device.DeviceInput.{DeviceInput}
 use Rattle.run_input.proofs.Laws.{at_start, given_at, given_past, ends_past, ends_beyond, ends_before}
 use Rattle.run_input.proofs.Laws.{goes_on_law, ended_run}
 use Rattle.run_input.proofs.run_with_input.Goals as goal
+
+-- the input at place i, which is below the count of all three lists
+next_given : (i n : ℕ) (at what : List ℕ) {count two : ℕ} → i < count → (count ≤ two) × (count ≤ length what)
+    → (two ≤ length at) × (two ≤ n)
+    → drop i (given_of (take n at) what)
+    ≡ record { at = get_or at i 0; input = input_of (get_or what i 0) } ∷ drop (suc i) (given_of (take n at) what)
+next_given i n at what h all two =
+    given_at i n at what (omega (arith, h, all.0, two.1)) (omega (arith, h, all.0, two.0)) (omega (arith, h, all.1))
 
 -- no input was handed in
 pub loop-i-init : goal.loop-i-init
@@ -24,16 +32,10 @@ pub returns-then-n-due-clause-tables_after : goal.returns-then-n-due-clause-tabl
 returns-then-n-due-clause-tables_after c =
     let a = c.args in
     let l = c.loop-i in
-    let all = c.shorter-count.ensures.upper_bound in
-    let two = c.shorter.ensures.upper_bound in
-    let given : List Given = given_of (take (length a.told.now) a.at.now) a.what.now in
-    let next : Given = record { at = get_or a.at.now l.i 0; input = input_of (get_or a.what.now l.i 0) } in
-    let split : drop l.i given ≡ next ∷ drop (suc l.i) given =
-    given_at l.i (length a.told.now) a.at.now a.what.now (omega (arith, c.loop-i-test.true, all.0, two.1))
-    (omega (arith, c.loop-i-test.true, all.0, two.0))
-    (omega (arith, c.loop-i-test.true, all.1)) in
+    let split = next_given l.i (length a.told.now) a.at.now a.what.now c.loop-i-test.true
+    c.shorter-count.ensures.upper_bound c.shorter.ensures.upper_bound in
     rw c.end_of.ensures
-    (ends_beyond l.invariant.stands next (drop (suc l.i) given) split _ c.if-n-due.true
+    (ends_beyond l.invariant.stands _ _ split _ c.if-n-due.true
     c.run_on-last.ensures.tables_after)
 
 -- the input was handed in
@@ -43,18 +45,14 @@ loop-i-preserved c =
     let l = c.loop-i in
     let all = c.shorter-count.ensures.upper_bound in
     let two = c.shorter.ensures.upper_bound in
-    let given : List Given = given_of (take (length a.told.now) a.at.now) a.what.now in
-    let next : Given = record { at = get_or a.at.now l.i 0; input = input_of (get_or a.what.now l.i 0) } in
     let room : l.i < length a.told.now = omega (arith, c.loop-i-test.true, all.0, two.1) in
-    let split : drop l.i given ≡ next ∷ drop (suc l.i) given =
-    given_at l.i (length a.told.now) a.at.now a.what.now room (omega (arith, c.loop-i-test.true, all.0, two.0))
-    (omega (arith, c.loop-i-test.true, all.1)) in
+    let split = next_given l.i (length a.told.now) a.at.now a.what.now c.loop-i-test.true all two in
     let r = c.run_on-r.result in
     let left = c.run_on-r.new in
     let h = c.hand_in-h.result in
     record {
       stands =
-          goes_on_law l.invariant.stands next (drop (suc l.i) given) split c.if-n-due.false
+          goes_on_law l.invariant.stands _ _ split c.if-n-due.false
           (ended_run r left.regs left.pcrs left.mem left.tables) c.run_on-r.ensures.tables_after
           (sym c.is_spent.ensures ∙ c.if-is_spent.true)
           (record { told = h.told; state = state_with r.level h.control left.regs left.pcrs })
@@ -71,16 +69,10 @@ pub returns-else-is_spent-clause-tables_after : goal.returns-else-is_spent-claus
 returns-else-is_spent-clause-tables_after c =
     let a = c.args in
     let l = c.loop-i in
-    let all = c.shorter-count.ensures.upper_bound in
-    let two = c.shorter.ensures.upper_bound in
-    let given : List Given = given_of (take (length a.told.now) a.at.now) a.what.now in
-    let next : Given = record { at = get_or a.at.now l.i 0; input = input_of (get_or a.what.now l.i 0) } in
-    let split : drop l.i given ≡ next ∷ drop (suc l.i) given =
-    given_at l.i (length a.told.now) a.at.now a.what.now (omega (arith, c.loop-i-test.true, all.0, two.1))
-    (omega (arith, c.loop-i-test.true, all.0, two.0))
-    (omega (arith, c.loop-i-test.true, all.1)) in
+    let split = next_given l.i (length a.told.now) a.at.now a.what.now c.loop-i-test.true
+    c.shorter-count.ensures.upper_bound c.shorter.ensures.upper_bound in
     rw c.end_of-else-is_spent.ensures
-    (ends_before l.invariant.stands next (drop (suc l.i) given) split c.if-n-due.false _
+    (ends_before l.invariant.stands _ _ split c.if-n-due.false _
     c.run_on-r.ensures.tables_after (sym c.is_spent.ensures ∙ c.if-is_spent.false))
 
 -- no input is left
