@@ -169,7 +169,8 @@ fn read_full(from: &mut impl Read, to: &mut [u8]) -> usize
     done
 }
 
-// Reads the cases and answers them; the bytes read. The one error is that of a write that failed: the answers end there.
+// Reads the cases and answers them; the bytes read. The one error is that of a write that failed: the answers end
+// there.
 pub fn check(rt: &(impl Input + Print)) -> io::Result<usize>
     ensures { IfOk result (λ n. n ≤ 524288) }
 {
