@@ -3,10 +3,20 @@
 use Rattle.std.proofs.Common.{◌≡◌, ℕ, zero, suc, ◌+◌, ◌-◌, ◌*◌, ◌/◌, ◌%◌, ◌^◌, ◌<◌, ◌≤◌, Bool, true, false, ltb, sym, refl, ap, ◌∙◌, subst, lt_of_lt_of_le, mod-lt, mul_assoc, mul_comm, add-mul, one-mul, pow-suc, div-add-mod', add-one, arith, lit<, pow_mono, shl_exact, shr-shr, ltb-false, ltb-true, eq-eqb, ne_eqb}
 use native.Mathlib.Nat.{div-eq_of_lt}
 use native.Mathlib.Nat.{div-eq_of_lt-le}
+use mir.Val.{bool_byte}
 use lib.Count.{count_leading_zeros, leading_length}
 use lib.Pow.{split}
-use Rattle.isa.specs.Machine.{bit, with_bit}
+use Rattle.isa.specs.Machine.{bit, with_bit, flag_of}
 use Rattle.isa.specs.System.{highest_in}
+
+-- a flag is a bit, and what a bool is as a number
+pub flag_below : (b : Bool) → flag_of b < 2
+flag_below true = lit< tt
+flag_below false = lit< tt
+
+pub flag_is : (b : Bool) → bool_byte b ≡ flag_of b
+flag_is true = refl
+flag_is false = refl
 
 -- a bit at place n of k bits
 pub placed : (b n k : ℕ) → b < 2 → n < k → (b * 2 ^ n) % 2 ^ k ≡ b * 2 ^ n
@@ -28,13 +38,16 @@ parts n w =
     ∙ ap (λ (x : ℕ). x + w % 2 ^ n) (halves (w / 2 ^ n) (2 ^ n))
     ∙ split w n
 
--- the bit taken out, and another put in
-module _ (k n v w b : ℕ) (h : n < k) (l : v < 2) (e : b ≡ bit n w) where
+-- the bit taken out, as b, and the flag v put in, as u
+module _ (k n w b u : ℕ) (v : Bool) (h : n < k) (e : b ≡ bit n w) (i : u ≡ flag_of v) where
   taken : (b * 2 ^ n) % 2 ^ k ≡ bit n w * 2 ^ n
   taken = ap (λ (x : ℕ). (x * 2 ^ n) % 2 ^ k) e ∙ placed (bit n w) n k (mod-lt (w / 2 ^ n) (lit< tt)) h
 
-  pub changed : w - (b * 2 ^ n) % 2 ^ k + (v * 2 ^ n) % 2 ^ k ≡ with_bit n v w
-  changed = omega (arith, taken, parts n w, placed v n k l h)
+  put : (u * 2 ^ n) % 2 ^ k ≡ flag_of v * 2 ^ n
+  put = ap (λ (x : ℕ). (x * 2 ^ n) % 2 ^ k) i ∙ placed (flag_of v) n k (flag_below v) h
+
+  pub changed : w - (b * 2 ^ n) % 2 ^ k + (u * 2 ^ n) % 2 ^ k ≡ with_bit n (flag_of v) w
+  changed = omega (arith, taken, parts n w, put)
 
 -- ---- the highest bit
 

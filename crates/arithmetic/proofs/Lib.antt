@@ -2,4 +2,3 @@
 pub mod Divisions
 pub mod Fields
 pub mod Places
-pub mod Counts

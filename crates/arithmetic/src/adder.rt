@@ -1,5 +1,6 @@
 // The adder and the flags O, Q and C that it sets.
 ghost use Rattle.std.specs.Prelude.{◌≡◌, ◌<◌};
+ghost use Rattle.isa.specs.Machine.{flag_of};
 ghost use Rattle.isa.specs.Flags.{adder, with_overflow, with_sum, complement};
 ghost use Rattle.isa.specs.Signs.{sign_if, carry_by_signs, overflow_by_signs};
 
@@ -7,7 +8,8 @@ use crate::bits;
 use crate::signed::negative;
 use isa::constant::{FLAG_C, FLAG_O, FLAG_Q};
 
-// A sum's low 16 bits, the carry out of bit 15, and the signed overflow.
+// A sum's low 16 bits, the carry out of bit 15, and the signed overflow: both as flags, which are numbers since
+// `with_sum` and `with_overflow` answer for any.
 #[derive(Clone, Copy)]
 pub struct Sum {
     pub value: u16,
@@ -23,30 +25,22 @@ fn by_signs(value: u16, a: bool, b: bool, r: bool) -> Sum
     ensures carry { result.carry ≡ carry_by_signs (sign_if a) (sign_if b) (sign_if r) }
     ensures overflow { result.overflow ≡ overflow_by_signs (sign_if a) (sign_if b) (sign_if r) }
 {
-    if a == b {
-        return Sum {
-            value: value,
-            carry: a as u16,
-            overflow: (r != a) as u16,
-        };
-    }
     Sum {
-        value: value,
-        carry: !r as u16,
-        overflow: 0,
+        value,
+        carry: u16::from(if a == b { a } else { !r }),
+        overflow: u16::from(a == b && r != a),
     }
 }
 
 // a + b with the carry in c.
-pub fn add(a: u16, b: u16, c: u16) -> Sum
-    requires { c < 2 }
-    ensures value { result.value ≡ (adder a b c).value }
-    ensures carry { result.carry ≡ (adder a b c).carry }
-    ensures overflow { result.overflow ≡ (adder a b c).overflow }
+pub fn add(a: u16, b: u16, c: bool) -> Sum
+    ensures value { result.value ≡ (adder a b (flag_of c)).value }
+    ensures carry { result.carry ≡ (adder a b (flag_of c)).carry }
+    ensures overflow { result.overflow ≡ (adder a b (flag_of c)).overflow }
     ensures carry_bit { result.carry < 2 }
 {
-    let half = std::num::wrapping_add_u16(a, b);
-    let value = std::num::wrapping_add_u16(half, c);
+    let half = a.wrapping_add(b);
+    let value = half.wrapping_add(u16::from(c));
     by_signs(value, negative(a), negative(b), negative(value))
 }
 
@@ -56,9 +50,10 @@ pub fn with_overflow(o: u16, sts: u16) -> u16
     ensures { result ≡ with_overflow o sts }
 {
     if o == 1 {
-        return bits::with_bit(FLAG_O, 1, bits::with_bit(FLAG_Q, 1, sts));
+        bits::with_bit(FLAG_O, true, bits::with_bit(FLAG_Q, true, sts))
+    } else {
+        bits::with_bit(FLAG_O, false, sts)
     }
-    bits::with_bit(FLAG_O, 0, sts)
 }
 
 // STS after an addition.
@@ -67,7 +62,7 @@ pub fn with_sum(s: Sum, sts: u16) -> u16
     requires { s.carry < 2 }
     ensures { result ≡ with_sum (record { value = s.value; carry = s.carry; overflow = s.overflow }) sts }
 {
-    bits::with_bit(FLAG_C, s.carry, with_overflow(s.overflow, sts))
+    bits::with_bit(FLAG_C, s.carry == 1, with_overflow(s.overflow, sts))
 }
 
 // The complement of a word.

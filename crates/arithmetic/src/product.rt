@@ -1,12 +1,11 @@
 // Signed products of words.
-ghost use Rattle.std.specs.Prelude.{◌≡◌, nat_lt, unsigned_abs};
-ghost use Rattle.isa.specs.Machine.{flag_of};
+ghost use Rattle.std.specs.Prelude.{◌≡◌};
 ghost use Rattle.isa.specs.Flags.{bits_of, product, product_overflow};
 
+use crate::signed::signed;
 use crate::whole;
-use isa::constant::WORD_BITS;
 
-// A product's low 16 bits, and 1 where its absolute value exceeds 32,767.
+// A product's low 16 bits, and 1 where its absolute value exceeds 32,767: the flag that `adder::with_overflow` takes.
 #[derive(Clone, Copy)]
 pub struct Product {
     pub value: u16,
@@ -16,14 +15,7 @@ pub struct Product {
 fn signed_product(a: u16, b: u16) -> i64
     ensures { result ≡ product a b }
 {
-    whole::signed(WORD_BITS, a as u32) * whole::signed(WORD_BITS, b as u32)
-}
-
-// 1 for an absolute value above 32,767: of -32768 too.
-fn exceeds(z: i64) -> u16
-    ensures { result ≡ flag_of (nat_lt 32767 (unsigned_abs z)) }
-{
-    whole::outside(z, -32767, 32767)
+    i64::from(signed(a)) * i64::from(signed(b))
 }
 
 #[tactic(auto, unfolding(isa::specs::Flags::product_overflow))]
@@ -34,7 +26,7 @@ pub fn multiply(a: u16, b: u16) -> Product
     let z = signed_product(a, b);
     Product {
         value: whole::word(z),
-        overflow: exceeds(z),
+        overflow: u16::from(32767 < z.unsigned_abs()),
     }
 }
 

@@ -1,5 +1,19 @@
-// The machine that every case starts from, before its changes: in 19-bit mode, or in extended mode.
-use isa::constant::{FILE_SIZE, PAGE_WORDS, REGISTER_WORDS, STATE_WORDS};
+// The machine that every case starts from, before its changes.
+ghost use Rattle.std.specs.Prelude.{◌<◌};
+
+use isa::constant::{FILE_SIZE, FIRST_DEVICE, PAGE_WORDS, REGISTER_WORDS, STATE_WORDS};
+use std::alloc::{AllocError, Global};
+use std::array;
+
+// The two machines that cases start from: in 19-bit mode, or in extended mode.
+#[derive(Clone, Copy, PartialEq, Eq)]
+pub(crate) enum PagingMode {
+    NineteenBit,
+    Extended,
+}
+
+// The extended flag among a state's words: the last control word.
+const EXTENDED: usize = FIRST_DEVICE - 1;
 
 // A word that tells its index.
 fn pattern(i: usize) -> u16 {
@@ -7,14 +21,10 @@ fn pattern(i: usize) -> u16 {
 }
 
 // Registers at 8 * level + number, then the control words.
-fn state_word(i: usize) -> u16 {
-    if i < REGISTER_WORDS {
-        if i % FILE_SIZE == 0 {
-            return (i * 3 % 256 / 2 * 2) as u16;
-        }
-        return pattern(i + 7);
-    }
+fn state_word(mode: PagingMode, i: usize) -> u16 {
     match i {
+        0..REGISTER_WORDS if i % FILE_SIZE == 0 => (i * 3 % 256 / 2 * 2) as u16,
+        0..REGISTER_WORDS => pattern(i + 7),
         128 => 3,
         129 => 1,
         130 => 1,
@@ -25,6 +35,7 @@ fn state_word(i: usize) -> u16 {
         135 => 0,
         136 => 2046,
         137 => 0,
+        EXTENDED => u16::from(mode == PagingMode::Extended),
         154..=167 => 0,
         _ => pcr(i),
     }
@@ -35,55 +46,53 @@ fn pcr(i: usize) -> u16 {
     ((i % 4 + 2) % 4 * 512 + (i % 4 + 3) % 4 * 128 + 2) as u16
 }
 
+// Registers and control words.
+pub(crate) fn state_words(mode: PagingMode) -> [u16; STATE_WORDS] {
+    array::from_fn(|i| state_word(mode, i))
+}
+
 // Every access permitted to ring 2; pages of memory in another order in each table.
-fn entry(i: usize, size: usize) -> u16 {
-    if size < PAGE_WORDS {
-        return 0;
-    }
-    let pages = size / PAGE_WORDS;
+fn short_entry(i: usize, pages: usize) -> u16
+    requires { 0 < pages }
+{
     (58368 + (i % 64 + i / 64 % 4) % pages % 512) as u16
 }
 
 // The same entries in extended mode, of two words each.
-fn long_entry(i: usize, size: usize) -> u16 {
-    if size < PAGE_WORDS {
-        return 0;
-    }
-    if i % 2 == 0 {
-        return 58368;
-    }
+fn long_entry(i: usize, pages: usize) -> u16
+    requires { 0 < pages }
+{
     let slot = i / 2;
-    let pages = size / PAGE_WORDS;
-    ((slot % 64 + slot / 64 % 4) % pages % 16384) as u16
+    if i % 2 == 0 {
+        58368
+    } else {
+        ((slot % 64 + slot / 64 % 4) % pages % 16384) as u16
+    }
 }
 
-// Registers and control words of the base machine.
-pub(crate) fn base_state() -> [u16; STATE_WORDS] {
-    let mut flat = [0u16; STATE_WORDS];
-    let mut i = 0;
-    while i < STATE_WORDS {
-        flat[i] = state_word(i);
-        i += 1;
+// A word of the page tables beside so many words of memory; 0 where memory has no page.
+fn table_word(mode: PagingMode, memory_words: usize, i: usize) -> u16 {
+    let pages = memory_words / PAGE_WORDS;
+    match mode {
+        _ if pages == 0 => 0,
+        PagingMode::NineteenBit => short_entry(i, pages),
+        PagingMode::Extended => long_entry(i, pages),
     }
-    flat
 }
 
-// A word of the base machine, by kind: 1 memory, 2 page tables, 3 page tables of extended mode, beside so much memory.
-fn base_word(kind: u16, size: usize, i: usize) -> u16 {
-    if kind == 1 {
-        return pattern(i);
-    }
-    if kind == 2 {
-        return entry(i, size);
-    }
-    long_entry(i, size)
+// So many words of the pattern: the base machine's memory.
+pub(crate) fn patterned(alloc: Global, words: usize) -> Result<Vec<u16>, AllocError> {
+    (0..words).map(pattern).collect(alloc)
 }
 
-// All words of a kind, beside so much memory.
-pub(crate) fn fill(kind: u16, size: usize, to: &mut [u16]) {
-    let mut i = 0;
-    while i < to.len() {
-        to[i] = base_word(kind, size, i);
-        i += 1;
-    }
+// So many words of page tables, beside so many words of memory.
+pub(crate) fn base_tables(
+    alloc: Global,
+    mode: PagingMode,
+    memory_words: usize,
+    words: usize,
+) -> Result<Vec<u16>, AllocError> {
+    (0..words)
+        .map(|i| table_word(mode, memory_words, i))
+        .collect(alloc)
 }

@@ -1,49 +1,35 @@
 // Conversions of the floating forms: the answer's line is 0 and the words of the other form, or the refusal's number.
-use crate::numbers::{get, low};
-use crate::show::word;
-use floating::form::{Long, LongAnswer, Short, ShortAnswer};
+use crate::case::Case;
+use floating::form::{Long, Short};
 use floating::{long_to_short, short_to_long};
 use isa::answer::Refusal;
-use isa::number::refusal_number;
 use std::io;
 
-fn refused(rt: &impl Print, x: Refusal) -> io::Result<()> {
-    let n = refusal_number(x);
-    println!(rt; "{n}")
+fn refused(rt: &impl Print, refusal: Refusal) -> io::Result<()> {
+    println!(rt; "{}", u16::from(refusal))
 }
 
-// The case at a place: words A and D of a short number.
-pub(crate) fn short(rt: &impl Print, words: &[u64], at: usize) -> io::Result<()> {
-    let s = Short {
-        a: low(get(words, at, 1)),
-        d: low(get(words, at, 2)),
+// A case of words A and D of a short number.
+pub(crate) fn short_converted(rt: &impl Print, case: Case<'_>) -> io::Result<()> {
+    let short = Short {
+        a: case.word(1),
+        d: case.word(2),
     };
-    match short_to_long(s) {
-        LongAnswer::Converted(l) => {
-            print!(rt; "0")?;
-            word(rt, l.t)?;
-            word(rt, l.a)?;
-            word(rt, l.d)?;
-            println!(rt)
-        }
-        LongAnswer::Refused(x) => refused(rt, x),
+    match short_to_long(short) {
+        Ok(Long { t, a, d }) => println!(rt; "0 {t:06o} {a:06o} {d:06o}"),
+        Err(refusal) => refused(rt, refusal),
     }
 }
 
-// The case at a place: words T, A and D of a long number.
-pub(crate) fn long(rt: &impl Print, words: &[u64], at: usize) -> io::Result<()> {
-    let l = Long {
-        t: low(get(words, at, 1)),
-        a: low(get(words, at, 2)),
-        d: low(get(words, at, 3)),
+// A case of words T, A and D of a long number.
+pub(crate) fn long_converted(rt: &impl Print, case: Case<'_>) -> io::Result<()> {
+    let long = Long {
+        t: case.word(1),
+        a: case.word(2),
+        d: case.word(3),
     };
-    match long_to_short(l) {
-        ShortAnswer::Converted(s) => {
-            print!(rt; "0")?;
-            word(rt, s.a)?;
-            word(rt, s.d)?;
-            println!(rt)
-        }
-        ShortAnswer::Refused(x) => refused(rt, x),
+    match long_to_short(long) {
+        Ok(Short { a, d }) => println!(rt; "0 {a:06o} {d:06o}"),
+        Err(refusal) => refused(rt, refusal),
     }
 }

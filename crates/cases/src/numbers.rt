@@ -1,96 +1,30 @@
-// Octal numbers in a text, and numbers by their place.
-ghost use Rattle.std.specs.Prelude.{◌≡◌, ◌≤◌, length, take};
+// Octal numbers in a text.
+use std::alloc::{AllocError, Global};
 
-// How far the reading of a text has come: the numbers found, the one that is being read, and whether one is.
-#[derive(Clone, Copy)]
-struct Reading {
-    count: usize,
-    value: u64,
-    inside: bool,
+// The most numbers that are found.
+const MOST_NUMBERS: usize = 196608;
+
+fn is_octal_digit(byte: &u8) -> bool {
+    matches!(byte, b'0'..=b'7')
 }
 
-fn octal_digit(b: u8) -> bool {
-    48 <= b && b <= 55
+// The number of digits; bits beyond 64 are dropped.
+fn number(digits: &[u8]) -> u64 {
+    digits.iter().fold(0, |value: u64, digit| {
+        value.wrapping_mul(8).wrapping_add(u64::from(digit % 8))
+    })
 }
 
-// A number with one digit more; bits beyond 64 are dropped.
-fn grown(v: u64, b: u8) -> u64 {
-    v % 2305843009213693952 * 8 + (b % 8) as u64
-}
-
-// A number put at the end of those found, if there is room.
-fn put(out: &mut [u64], count: usize, v: u64) -> usize {
-    if count < out.len() {
-        out[count] = v;
-        return count + 1;
-    }
-    count
-}
-
-// One byte further. What is no octal digit ends a number.
-fn next(r: Reading, b: u8, out: &mut [u64]) -> Reading {
-    if octal_digit(b) {
-        return Reading {
-            count: r.count,
-            value: grown(r.value, b),
-            inside: true,
-        };
-    }
-    if r.inside {
-        let n = put(out, r.count, r.value);
-        return Reading {
-            count: n,
-            value: 0,
-            inside: false,
-        };
-    }
-    r
-}
-
-// The numbers of a text whose last byte is none of a number; answers how many.
-pub(crate) fn numbers(text: &[u8], out: &mut [u64]) -> usize {
-    let mut r = Reading {
-        count: 0,
-        value: 0,
-        inside: false,
+// The numbers of a text, in order. What is no octal digit ends a number; digits at the text's end are none.
+pub(crate) fn numbers(alloc: Global, text: &[u8]) -> Result<Vec<u64>, AllocError> {
+    let ended = match text.iter().rposition(|byte| !is_octal_digit(byte)) {
+        Some(end) => &text[..end],
+        None => &[],
     };
-    let mut i = 0;
-    while i < text.len() {
-        r = next(r, text[i], out);
-        i += 1;
-    }
-    r.count
-}
-
-// The k-th number from a place on, 0 past the end.
-pub(crate) fn get(words: &[u64], at: usize, k: usize) -> u64 {
-    if words.len() <= at {
-        return 0;
-    }
-    if words.len() - at <= k {
-        return 0;
-    }
-    words[at + k]
-}
-
-// A number as an index.
-pub(crate) fn wide(v: u64) -> usize {
-    v as usize
-}
-
-// A number as a word.
-pub(crate) fn low(v: u64) -> u16 {
-    (v % 65536) as u16
-}
-
-// A number as a count of words, at most all of them.
-pub(crate) fn within(v: u64, words: &[u16]) -> usize
-    ensures in_bounds { result ≤ length words.now }
-    ensures taken { result ≡ length (take result words.now) }
-{
-    let k = v as usize;
-    if k <= words.len() {
-        return k;
-    }
-    words.len()
+    ended
+        .split(|byte| !is_octal_digit(byte))
+        .filter(|digits| !digits.is_empty())
+        .take(MOST_NUMBERS)
+        .map(number)
+        .collect(alloc)
 }

@@ -1,5 +1,6 @@
 // The second engine's cases of address modes, tables, faults in their order, marks, rings, the window, privileged
 // instructions and levels.
+// The seven programs have one main: each is the gate's program for a group of cases (crates.txt).
 #![tactic(auto)]
 
 use std::io;

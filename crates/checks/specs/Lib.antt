@@ -1,4 +1,2 @@
--- Answers one after the other; the bits of several words together; parts of the ranges.
-pub mod Answers
+-- The bits of several words together.
 pub mod Bits
-pub mod Ranges

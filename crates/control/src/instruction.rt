@@ -4,6 +4,7 @@ ghost use Rattle.isa.specs.Machine.{level_count, with_control};
 ghost use Rattle.isa.specs.System.{waited, switched, with_extended, controlled};
 
 use crate::internal;
+use arithmetic::bits::with_bit;
 use isa::instruction::ControlOp;
 use isa::machine::{Control, Core};
 
@@ -12,35 +13,37 @@ fn waited(level: u16, k: Control) -> Control
     requires { level < level_count }
     ensures { result ≡ waited level k }
 {
-    let mut t = k;
-    if k.interrupts == 1 {
-        if level == 0 {
-            return k;
+    if k.interrupts != 1 {
+        Control { stopped: 1, ..k }
+    } else if level == 0 {
+        k
+    } else {
+        Control {
+            pid: with_bit(level, false, k.pid),
+            ..k
         }
-        t.pid = arithmetic::bits::with_bit(level, 0, k.pid);
-        return t;
     }
-    t.stopped = 1;
-    t
 }
 
 // Interrupts and paging on or off.
-fn switched(c: Core, i: u16, p: u16) -> Core
-    ensures { result ≡ switched c i p }
+fn switched(c: Core, interrupts: u16, paging: u16) -> Core
+    ensures { result ≡ switched c interrupts paging }
 {
-    let mut k = c.control;
-    k.interrupts = i;
-    k.paging = p;
-    c.with_control(k)
+    c.with_control(Control {
+        interrupts,
+        paging,
+        ..c.control
+    })
 }
 
 // The extended flag.
-fn with_extended(c: Core, x: u16) -> Core
-    ensures { result ≡ with_control c (with_extended c.control x) }
+fn with_extended(c: Core, extended: u16) -> Core
+    ensures { result ≡ with_control c (with_extended c.control extended) }
 {
-    let mut k = c.control;
-    k.extended = x;
-    c.with_control(k)
+    c.with_control(Control {
+        extended,
+        ..c.control
+    })
 }
 
 // The core c at the level, of which P is one further, after the instruction.

@@ -2,10 +2,10 @@
 ghost use Rattle.std.specs.Prelude.{◌≡◌, ◌<◌};
 ghost use Rattle.isa.specs.System.{status_word, internal_word, after_reading, read, with_sts, written, maskable_word};
 ghost use Rattle.isa.specs.System.{with_maskable, bits_cleared, bits_set, with_pid, with_pie, with_internal};
-ghost use Rattle.isa.specs.System.{with_paging_status};
 ghost use Rattle.isa.specs.Machine.{level_count, with_control};
 
-use isa::constant::{ALL_ONES, LEVELS, STATUS_RANGE};
+use arithmetic::bits::highest;
+use isa::constant::{LEVELS, STATUS_RANGE};
 use isa::instruction::{Maskable, Readable, Writable};
 use isa::machine::{Control, Core, Register};
 
@@ -27,98 +27,66 @@ fn internal_word(level: u16, c: Core, r: Readable) -> u16
     ensures { result ≡ internal_word level c r }
 {
     let k = c.control;
-    let f = c.file;
     match r {
-        Readable::Status => status_word(level, k, f.get(Register::Sts)),
+        Readable::Status => status_word(level, k, c.file.get(Register::Sts)),
         Readable::Pgs => k.pgs,
         Readable::Pvl => 0o153602 + k.pvl % LEVELS * 0o10,
-        Readable::Iic => arithmetic::bits::highest(k.iid),
+        Readable::Iic => highest(k.iid),
         Readable::Pid => k.pid,
         Readable::Pie => k.pie,
         Readable::Actl => 1 << level,
     }
 }
 
-// TRA IIC clears IID, TRA PGS releases PGS.
+// TRA IIC clears IID. TRA PGS releases PGS: it keeps its value, and the next 2 or 3 sets it.
 fn after_reading(k: Control, r: Readable) -> Control
     ensures { result ≡ after_reading k r }
 {
     match r {
-        Readable::Status => k,
-        Readable::Pgs => released(k),
-        Readable::Pvl => k,
-        Readable::Iic => without_interrupts(k),
-        Readable::Pid => k,
-        Readable::Pie => k,
-        Readable::Actl => k,
+        Readable::Pgs => Control { held: 0, ..k },
+        Readable::Iic => Control { iid: 0, ..k },
+        Readable::Status | Readable::Pvl | Readable::Pid | Readable::Pie | Readable::Actl => k,
     }
-}
-
-// PGS keeps its value, and the next 2 or 3 sets it.
-fn released(k: Control) -> Control
-    ensures { result ≡ with_paging_status k k.pgs 0 }
-{
-    let mut t = k;
-    t.held = 0;
-    t
-}
-
-fn without_interrupts(k: Control) -> Control
-    ensures { result ≡ with_internal k 0 k.iie }
-{
-    let mut t = k;
-    t.iid = 0;
-    t
 }
 
 pub fn read(level: u16, c: Core, r: Readable) -> Core
     requires { level < level_count }
     ensures { result ≡ read level c r }
 {
-    let k = c.control;
-    let f = c.file;
-    let g = f.with(Register::A, internal_word(level, c, r));
-    let d = c.with_file(g);
-    d.with_control(after_reading(k, r))
+    let f = c.file.with(Register::A, internal_word(level, c, r));
+    c.with_file(f).with_control(after_reading(c.control, r))
 }
 
 fn with_sts(c: Core, w: u16) -> Core
     ensures { result ≡ with_sts c w }
 {
-    let f = c.file;
-    c.with_file(f.with(Register::Sts, w % STATUS_RANGE))
+    c.with_file(c.file.with(Register::Sts, w % STATUS_RANGE))
 }
 
-fn with_iie(c: Core, w: u16) -> Core
-    ensures { result ≡ with_control c (with_internal c.control c.control.iid w) }
+// One line each, here and in with_pid, with_pie and with_extended: with a closure they would be no shorter.
+fn with_iie(c: Core, iie: u16) -> Core
+    ensures { result ≡ with_control c (with_internal c.control c.control.iid iie) }
 {
-    let mut k = c.control;
-    k.iie = w;
-    c.with_control(k)
+    c.with_control(Control { iie, ..c.control })
 }
 
-fn with_pid(c: Core, w: u16) -> Core
-    ensures { result ≡ with_control c (with_pid c.control w) }
+fn with_pid(c: Core, pid: u16) -> Core
+    ensures { result ≡ with_control c (with_pid c.control pid) }
 {
-    let mut k = c.control;
-    k.pid = w;
-    c.with_control(k)
+    c.with_control(Control { pid, ..c.control })
 }
 
-fn with_pie(c: Core, w: u16) -> Core
-    ensures { result ≡ with_control c (with_pie c.control w) }
+fn with_pie(c: Core, pie: u16) -> Core
+    ensures { result ≡ with_control c (with_pie c.control pie) }
 {
-    let mut k = c.control;
-    k.pie = w;
-    c.with_control(k)
+    c.with_control(Control { pie, ..c.control })
 }
 
 // TRR of A.
 pub fn written(c: Core, r: Writable) -> Core
     ensures { result ≡ written c r }
 {
-    let f = c.file;
-    let a = f.get(Register::A);
+    let a = c.file.get(Register::A);
     match r {
         Writable::Status => with_sts(c, a),
         Writable::Iie => with_iie(c, a / 2 % 1024 * 2),
@@ -131,12 +99,10 @@ pub fn written(c: Core, r: Writable) -> Core
 fn maskable_word(c: Core, r: Maskable) -> u16
     ensures { result ≡ maskable_word c r }
 {
-    let f = c.file;
-    let k = c.control;
     match r {
-        Maskable::Status => f.get(Register::Sts),
-        Maskable::Pid => k.pid,
-        Maskable::Pie => k.pie,
+        Maskable::Status => c.file.get(Register::Sts),
+        Maskable::Pid => c.control.pid,
+        Maskable::Pie => c.control.pie,
     }
 }
 
@@ -154,16 +120,12 @@ fn with_maskable(c: Core, r: Maskable, w: u16) -> Core
 pub fn bits_cleared(c: Core, r: Maskable) -> Core
     ensures { result ≡ bits_cleared c r }
 {
-    let f = c.file;
-    let a = ALL_ONES - f.get(Register::A);
-    with_maskable(c, r, maskable_word(c, r) & a)
+    with_maskable(c, r, maskable_word(c, r) & !c.file.get(Register::A))
 }
 
 // MST sets them.
 pub fn bits_set(c: Core, r: Maskable) -> Core
     ensures { result ≡ bits_set c r }
 {
-    let f = c.file;
-    let a = f.get(Register::A);
-    with_maskable(c, r, maskable_word(c, r) | a)
+    with_maskable(c, r, maskable_word(c, r) | c.file.get(Register::A))
 }

@@ -2,6 +2,7 @@
 ghost use Rattle.std.specs.Prelude.{◌≡◌, ◌<◌};
 ghost use Rattle.isa.specs.Step.{detected, interrupted, gives};
 
+use arithmetic::bits::{bit, with_bit};
 use isa::constant::INTERNAL_LEVEL;
 use isa::machine::{Control, Core};
 
@@ -10,9 +11,10 @@ fn detected(n: u16, k: Control) -> Control
     requires { n < 16 }
     ensures { result ≡ detected n k }
 {
-    let mut t = k;
-    t.iid = arithmetic::bits::with_bit(n, 1, k.iid);
-    t
+    Control {
+        iid: with_bit(n, true, k.iid),
+        ..k
+    }
 }
 
 // An interrupt sets its IID bit; if IIE has it, PID bit 14 too.
@@ -21,12 +23,15 @@ pub fn interrupted(n: u16, k: Control) -> Control
     requires { n < 16 }
     ensures { result ≡ interrupted n k }
 {
-    let mut t = detected(n, k);
-    if arithmetic::bits::bit(n, k.iie) == 1 {
-        t.pid = arithmetic::bits::with_bit(INTERNAL_LEVEL, 1, k.pid);
-        return t;
+    let t = detected(n, k);
+    if bit(n, k.iie) {
+        Control {
+            pid: with_bit(INTERNAL_LEVEL, true, k.pid),
+            ..t
+        }
+    } else {
+        t
     }
-    t
 }
 
 // The core after interrupt n.
@@ -34,6 +39,5 @@ pub fn gives(n: u16, c: Core) -> Core
     requires { n < 16 }
     ensures { result ≡ gives n c }
 {
-    let k = c.control;
-    c.with_control(interrupted(n, k))
+    c.with_control(interrupted(n, c.control))
 }

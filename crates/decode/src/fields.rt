@@ -1,4 +1,5 @@
-// The fields of an instruction word.
+// The fields of an instruction word. Each is cut out and named at once: a From of its number would need a case for
+// numbers that so many bits have not.
 ghost use Rattle.std.specs.Prelude.{◌≡◌};
 ghost use Rattle.isa.specs.Decode.{mode_of, register_of, destination_of, source_of, four_of, cld_of, cm1_of};
 ghost use Rattle.isa.specs.Decode.{condition_of, argument_of, shiftable_of, kind_of, bit_op_of};

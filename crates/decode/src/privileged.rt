@@ -1,9 +1,9 @@
 // Privileged instructions with their fields.
-ghost use Rattle.std.specs.Prelude.{◌/◌, ◌%◌, ◌≡◌, cond};
-ghost use Rattle.isa.specs.declared.instruction.ControlOp.TheVariants.{Tra, Trr, Mcl, Mst};
+ghost use Rattle.std.specs.Prelude.{◌/◌, ◌%◌, ◌≡◌, ◌==◌, cond};
+ghost use Rattle.isa.specs.declared.instruction.ControlOp.TheVariants.{Mcl, Mst};
 ghost use Rattle.isa.specs.declared.instruction.System.TheVariants.{Irr, Irw, Physical, Iox, Ident};
-ghost use Rattle.isa.specs.declared.instruction.Instruction.TheVariants.{Privileged};
-ghost use Rattle.isa.specs.Decode.{control, tra_of, trr_of, masked_of, switch_of, transfer_of, srb_of, lrb_of, four_of};
+ghost use Rattle.isa.specs.declared.instruction.Instruction.TheVariants.{Privileged, Illegal};
+ghost use Rattle.isa.specs.Decode.{control, tra_of, trr_of, masked_of, switch_of, transfer_of, four_of};
 ghost use Rattle.isa.specs.Decode.{destination_of};
 
 use crate::fields::{destination_of, four_of};
@@ -16,36 +16,22 @@ fn control(o: ControlOp) -> Instruction
     Instruction::Privileged(System::Control(o))
 }
 
-// TRA of a register.
-fn tra(r: Readable) -> Instruction
-    ensures { result ≡ control (Tra r) }
-{
-    Instruction::Privileged(System::Control(ControlOp::Tra(r)))
-}
-
 // TRA: the internal register that is read.
 #[tactic(auto, unfolding(isa::specs::Decode::by_code, isa::specs::Decode::tra_of))]
 pub fn tra_of(w: u16) -> Instruction
     ensures { result ≡ tra_of (w % 64) }
 {
     match w % 64 {
-        0o01 => tra(Readable::Status),
-        0o03 => tra(Readable::Pgs),
-        0o04 => tra(Readable::Pvl),
-        0o05 => tra(Readable::Iic),
-        0o06 => tra(Readable::Pid),
-        0o07 => tra(Readable::Pie),
-        0o11 => tra(Readable::Actl),
+        0o01 => control(ControlOp::Tra(Readable::Status)),
+        0o03 => control(ControlOp::Tra(Readable::Pgs)),
+        0o04 => control(ControlOp::Tra(Readable::Pvl)),
+        0o05 => control(ControlOp::Tra(Readable::Iic)),
+        0o06 => control(ControlOp::Tra(Readable::Pid)),
+        0o07 => control(ControlOp::Tra(Readable::Pie)),
+        0o11 => control(ControlOp::Tra(Readable::Actl)),
         0o14 => Instruction::Privileged(System::TraPgc),
         _ => Instruction::Illegal,
     }
-}
-
-// TRR to a register.
-fn trr(r: Writable) -> Instruction
-    ensures { result ≡ control (Trr r) }
-{
-    Instruction::Privileged(System::Control(ControlOp::Trr(r)))
 }
 
 // TRR: the internal register that is written.
@@ -54,11 +40,11 @@ pub fn trr_of(w: u16) -> Instruction
     ensures { result ≡ trr_of (w % 64) }
 {
     match w % 64 {
-        0o01 => trr(Writable::Status),
+        0o01 => control(ControlOp::Trr(Writable::Status)),
         0o03 => Instruction::Privileged(System::TrrPcr),
-        0o05 => trr(Writable::Iie),
-        0o06 => trr(Writable::Pid),
-        0o07 => trr(Writable::Pie),
+        0o05 => control(ControlOp::Trr(Writable::Iie)),
+        0o06 => control(ControlOp::Trr(Writable::Pid)),
+        0o07 => control(ControlOp::Trr(Writable::Pie)),
         _ => Instruction::Illegal,
     }
 }
@@ -67,10 +53,11 @@ pub fn trr_of(w: u16) -> Instruction
 fn masked(set: bool, r: Maskable) -> Instruction
     ensures { result ≡ control (cond set Mst Mcl r) }
 {
-    if set {
-        return Instruction::Privileged(System::Control(ControlOp::Mst(r)));
-    }
-    Instruction::Privileged(System::Control(ControlOp::Mcl(r)))
+    control(if set {
+        ControlOp::Mst(r)
+    } else {
+        ControlOp::Mcl(r)
+    })
 }
 
 // MST or MCL: the internal register whose bits are set or cleared.
@@ -131,26 +118,15 @@ pub fn transfer_of(w: u16) -> Instruction
     }
 }
 
-// SRB, by the low three bits.
-#[tactic(auto, unfolding(isa::specs::Decode::srb_of))]
-pub fn srb_of(w: u16) -> Instruction
-    ensures { result ≡ srb_of w }
+// SRB or LRB, by its low three bits.
+pub fn block_of(low: u16, o: System, w: u16) -> Instruction
+    ensures { result ≡ cond (w % 8 == low) (Privileged o) Illegal }
 {
-    if w % 8 == 2 {
-        return Instruction::Privileged(System::Srb(four_of(w)));
+    if w % 8 == low {
+        Instruction::Privileged(o)
+    } else {
+        Instruction::Illegal
     }
-    Instruction::Illegal
-}
-
-// LRB, by the low three bits.
-#[tactic(auto, unfolding(isa::specs::Decode::lrb_of))]
-pub fn lrb_of(w: u16) -> Instruction
-    ensures { result ≡ lrb_of w }
-{
-    if w % 8 == 0 {
-        return Instruction::Privileged(System::Lrb(four_of(w)));
-    }
-    Instruction::Illegal
 }
 
 // IDENT, by its line.

@@ -1,4 +1,4 @@
-// Unprivileged instructions and MON, with their fields.
+// Unprivileged instructions and MON, with their fields: each in one line, as the definition of its row has it.
 ghost use Rattle.std.specs.Prelude.{◌≡◌};
 ghost use Rattle.isa.specs.declared.instruction.User.TheVariants.{Jump, Shift, SetArgument, AddArgument};
 ghost use Rattle.isa.specs.declared.instruction.User.TheVariants.{Bit, Multiply, Divide};
@@ -85,9 +85,10 @@ pub fn shift_of(w: u16) -> Instruction
     ensures { result ≡ shift_of w }
 {
     if w / 64 % 2 == 0 {
-        return shift(w);
+        shift(w)
+    } else {
+        Instruction::Illegal
     }
-    Instruction::Illegal
 }
 
 // SAB, SAA, SAT, SAX.

@@ -5,7 +5,7 @@ ghost use Rattle.devices.specs.Events.{Leaves, Acts};
 use crate::ident::{identify, line_of};
 use crate::register::{exchange, register_of};
 use crate::{Acted, clock_asking, input_asking, output_asking};
-use isa::device::Devices;
+use isa::device::{Clock, Devices, TerminalInput, TerminalOutput};
 
 // IOX or IOXT with an address, IDENT with a code; a tick, a character typed, which stands in A's place, and one read
 // out.
@@ -22,44 +22,53 @@ pub enum DeviceEvent {
 fn ticked(d: Devices, pid: u16, a: u16) -> Acted
     ensures { Leaves pid d a ticked result }
 {
-    let mut t = d;
-    let mut x = d.clock;
-    x.ready = 1;
-    t.clock = x;
-    clock_asking(t, pid, a)
+    clock_asking(
+        d,
+        pid,
+        a,
+        Clock {
+            ready: 1,
+            ..d.clock
+        },
+    )
 }
 
 // A typed character: the last one, unread.
 fn typed(d: Devices, pid: u16, a: u16) -> Acted
     ensures { Leaves pid d a (λ k. typed k a) result }
 {
-    let mut t = d;
-    let mut x = d.input;
-    x.unread = 1;
-    x.character = a;
-    t.input = x;
-    input_asking(t, pid, a)
+    let input = TerminalInput {
+        unread: 1,
+        character: a,
+        ..d.input
+    };
+    input_asking(d, pid, a, input)
 }
 
 // The character sent is read out: none waits.
 fn read_out(d: Devices, pid: u16, a: u16) -> Acted
     ensures { Leaves pid d a read_out result }
 {
-    let mut t = d;
-    let mut x = d.output;
-    x.waits = 0;
-    t.output = x;
-    output_asking(t, pid, a)
+    output_asking(
+        d,
+        pid,
+        a,
+        TerminalOutput {
+            waits: 0,
+            ..d.output
+        },
+    )
 }
 
-pub fn act(d: Devices, pid: u16, a: u16, e: DeviceEvent) -> Acted
+// None where no device answers.
+pub fn act(d: Devices, pid: u16, a: u16, e: DeviceEvent) -> Option<Acted>
     ensures { Acts a pid d e result }
 {
     match e {
-        DeviceEvent::Exchange(n) => exchange(d, pid, a, register_of(n)),
+        DeviceEvent::Exchange(n) => Some(exchange(d, pid, a, register_of(n)?)),
         DeviceEvent::Identify(n) => identify(d, pid, a, line_of(n)),
-        DeviceEvent::Tick => ticked(d, pid, a),
-        DeviceEvent::Typed => typed(d, pid, a),
-        DeviceEvent::ReadOut => read_out(d, pid, a),
+        DeviceEvent::Tick => Some(ticked(d, pid, a)),
+        DeviceEvent::Typed => Some(typed(d, pid, a)),
+        DeviceEvent::ReadOut => Some(read_out(d, pid, a)),
     }
 }

@@ -3,71 +3,51 @@ ghost use Rattle.std.specs.Prelude.{◌≡◌};
 ghost use Rattle.isa.specs.InputOutput.{line_of, flip_flop, without_asking};
 ghost use Rattle.devices.specs.Events.{Identifies};
 
-use crate::{Acted, answered, unanswered};
+use crate::{Acted, answered};
 use isa::constant::IDENT_CODE;
 use isa::device::{Devices, Line};
 
 // The line that a code names.
 #[tactic(auto, unfolding(isa::specs::InputOutput::line_of))]
-pub(crate) fn line_of(n: u16) -> Line
+pub(crate) fn line_of(n: u16) -> Option<Line>
     ensures { result ≡ line_of n }
 {
     match n {
-        0o04 => Line::OutputLine,
-        0o22 => Line::InputLine,
-        0o43 => Line::ClockLine,
-        _ => Line::NoLine,
+        0o04 => Some(Line::OutputLine),
+        0o22 => Some(Line::InputLine),
+        0o43 => Some(Line::ClockLine),
+        _ => None,
     }
 }
 
 // Whether the device on it asks, 1 or 0.
 fn flip_flop(d: Devices, i: Line) -> u16
-    ensures { result ≡ flip_flop d i }
+    ensures { result ≡ flip_flop d (Some i) }
 {
-    let clock = d.clock;
-    let input = d.input;
-    let output = d.output;
     match i {
-        Line::OutputLine => output.asks,
-        Line::InputLine => input.asks,
-        Line::ClockLine => clock.asks,
-        Line::NoLine => 0,
+        Line::OutputLine => d.output.asks,
+        Line::InputLine => d.input.asks,
+        Line::ClockLine => d.clock.asks,
     }
 }
 
-fn without_asking(d: Devices, i: Line) -> Devices
-    ensures { result ≡ without_asking d i }
+fn without_asking(mut d: Devices, i: Line) -> Devices
+    ensures { result ≡ without_asking d (Some i) }
 {
-    let mut t = d;
-    let mut clock = d.clock;
-    let mut input = d.input;
-    let mut output = d.output;
     match i {
-        Line::OutputLine => {
-            output.asks = 0;
-            t.output = output;
-            t
-        }
-        Line::InputLine => {
-            input.asks = 0;
-            t.input = input;
-            t
-        }
-        Line::ClockLine => {
-            clock.asks = 0;
-            t.clock = clock;
-            t
-        }
-        Line::NoLine => t,
+        Line::OutputLine => d.output.asks = 0,
+        Line::InputLine => d.input.asks = 0,
+        Line::ClockLine => d.clock.asks = 0,
     }
+    d
 }
 
-// The code of the device that asks, whose flip-flop is cleared.
-pub(crate) fn identify(d: Devices, pid: u16, a: u16, i: Line) -> Acted
+// The code of the device that asks, whose flip-flop is cleared; none, where none asks on the line.
+pub(crate) fn identify(d: Devices, pid: u16, a: u16, i: Option<Line>) -> Option<Acted>
     ensures { Identifies a pid d i result }
 {
-    if flip_flop(d, i) == 1 {
-        return answered(IDENT_CODE, pid, without_asking(d, i));
+    match i {
+        Some(i) if flip_flop(d, i) == 1 => Some(answered(IDENT_CODE, pid, without_asking(d, i))),
+        _ => None,
     }
-    unanswered(a, pid, d)
 }

@@ -2,19 +2,19 @@
 #![tactic(auto)]
 
 ghost use Rattle.std.specs.Prelude.{◌≡◌, not, ◌+◌, ◌<◌, ◌^◌};
-ghost use Rattle.event.specs.Events.{is_fine, by_privilege, counted_ending};
-ghost use Rattle.event.specs.declared.Event.TheVariants.{Fine, Failed};
+ghost use Rattle.event.specs.Events.{is_fine, by_privilege, after_references};
+ghost use Rattle.std.specs.declared.option.Option.TheVariants.{None, Some};
+ghost use Rattle.event.specs.declared.Event.TheVariants.{Failed};
 
-use isa::access::Translation;
+use isa::access::Fault;
 use isa::instruction::System;
 use isa::machine::File;
 
-// Well; by an access that failed; with the error interrupt, 5; with a privileged instruction, on a ring that may
-// execute it or on one that may not (6); with MON; or with an illegal code.
+// How an instruction ended otherwise than well: by an access that failed; with the error interrupt, 5; with a
+// privileged instruction, on a ring that may execute it or on one that may not (6); with MON; or with an illegal code.
 #[derive(Clone, Copy)]
 pub enum Event {
-    Fine,
-    Failed(Translation),
+    Failed(Fault),
     Error,
     Privileged(System),
     NotPrivileged,
@@ -22,100 +22,77 @@ pub enum Event {
     Illegal,
 }
 
-// The references made, how an instruction ended, and the level's registers after it. While a request is served, they
-// are those up to a failed access, and 0 where none failed: `counted` then takes the request's number.
+// The references made, how the instruction ended, None where well, and the level's registers after it.
 #[derive(Clone, Copy)]
 pub struct Ending {
     pub references: u32,
-    pub event: Event,
+    pub event: Option<Event>,
     pub file: File,
 }
 
 pub fn fine(f: File) -> Ending
-    ensures { result ≡ record { references = 0; event = Fine; file = f } }
+    ensures { result ≡ record { references = 0; event = None; file = f } }
+{
+    done(f, 0)
+}
+
+// Well, after so many accesses.
+pub fn done(f: File, made: u32) -> Ending
+    ensures { result ≡ record { references = made; event = None; file = f } }
 {
     Ending {
-        references: 0,
-        event: Event::Fine,
+        references: made,
+        event: None,
         file: f,
     }
 }
 
 pub fn with_event(f: File, e: Event) -> Ending
-    ensures { result ≡ record { references = 0; event = e; file = f } }
+    ensures { result ≡ record { references = 0; event = Some e; file = f } }
 {
     Ending {
         references: 0,
-        event: e,
+        event: Some(e),
         file: f,
     }
 }
 
 // An access failed; so many were made, it among them.
-pub fn failed(f: File, x: Translation, made: u32) -> Ending
-    ensures { result ≡ record { references = made; event = Failed x; file = f } }
+pub fn failed(f: File, x: Fault, made: u32) -> Ending
+    ensures { result ≡ record { references = made; event = Some (Failed x); file = f } }
 {
     Ending {
         references: made,
-        event: Event::Failed(x),
+        event: Some(Event::Failed(x)),
         file: f,
     }
 }
 
-// A served request with its references: all that were to be made, or, where an access failed, the n before the request
-// and those up to that access.
-pub fn counted(e: Ending, n: u32, all: u32) -> Ending
+// The same, with n references before it.
+pub fn after(n: u32, e: Ending) -> Ending
     requires { n + e.references < 2 ^ 32 }
-    ensures { result ≡ counted_ending n all e }
+    ensures { result ≡ after_references n e }
 {
-    let event = e.event;
-    let file = e.file;
-    if let Event::Fine = event {
-        return Ending {
-            references: all,
-            event: Event::Fine,
-            file: file,
-        };
-    }
     Ending {
         references: n + e.references,
-        event: event,
-        file: file,
+        ..e
     }
 }
 
 // Whether an event leaves something to be done.
-pub fn ends(e: Event) -> bool
+pub fn ends(e: Option<Event>) -> bool
     ensures { result ≡ not (is_fine e) }
 {
-    match e {
-        Event::Fine => false,
-        Event::Failed(_) => true,
-        Event::Error => true,
-        Event::Privileged(_) => true,
-        Event::NotPrivileged => true,
-        Event::Monitor(_) => true,
-        Event::Illegal => true,
-    }
+    e.is_some()
 }
 
 // The event, where a privileged instruction needs that the ring is privileged.
 #[tactic(auto, unfolding(crate::specs::Events::by_privilege))]
-pub fn by_privilege(privileged: bool, e: Event) -> Event
+pub fn by_privilege(privileged: bool, e: Option<Event>) -> Option<Event>
     ensures { result ≡ by_privilege privileged e }
 {
     match e {
-        Event::Fine => e,
-        Event::Failed(_) => e,
-        Event::Error => e,
-        Event::Privileged(_) => {
-            if privileged {
-                return e;
-            }
-            Event::NotPrivileged
-        }
-        Event::NotPrivileged => e,
-        Event::Monitor(_) => e,
-        Event::Illegal => e,
+        Some(Event::Privileged(_)) if !privileged => Some(Event::NotPrivileged),
+        _ => e,
     }
 }

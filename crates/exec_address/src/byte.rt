@@ -10,7 +10,7 @@ use isa::machine::{File, Register};
 pub fn byte_address(f: File) -> u16
     ensures { result ≡ byte_address f }
 {
-    std::num::wrapping_add_u16(f.get(Register::T), f.get(Register::X) / 2)
+    f.get(Register::T).wrapping_add(f.get(Register::X) / 2)
 }
 
 fn even_x(f: File) -> bool
@@ -23,10 +23,7 @@ fn even_x(f: File) -> bool
 fn loaded_byte(f: File, w: u16) -> u16
     ensures { result ≡ loaded_byte f w }
 {
-    if even_x(f) {
-        return w / 256;
-    }
-    w % 256
+    if even_x(f) { w / 256 } else { w % 256 }
 }
 
 // LBYT: A takes the byte of the word w.
@@ -42,7 +39,8 @@ pub(crate) fn stored_byte(f: File, w: u16) -> u16
 {
     let b = f.get(Register::A) % 256;
     if even_x(f) {
-        return b * 256 + w % 256;
+        b * 256 + w % 256
+    } else {
+        w / 256 * 256 + b
     }
-    w / 256 * 256 + b
 }

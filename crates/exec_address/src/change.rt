@@ -11,7 +11,7 @@ use isa::machine::File;
 fn one_more(w: u16) -> u16
     ensures { result ≡ sum w 1 }
 {
-    std::num::wrapping_add_u16(w, 1)
+    w.wrapping_add(1)
 }
 
 // The word that is written for the word w.

@@ -6,6 +6,8 @@ ghost use Rattle.exec_address.specs.Requests.{loaded_by, words_loaded};
 
 use crate::byte::byte_loaded;
 use crate::request::Reading;
+use arithmetic::adder::{complement, with_overflow};
+use arithmetic::product::multiply;
 use exec_register::sum::takes;
 use isa::access::Triple;
 use isa::machine::{File, Register};
@@ -14,8 +16,8 @@ use isa::machine::{File, Register};
 fn multiplied(f: File, w: u16) -> File
     ensures { result ≡ multiplied f w }
 {
-    let p = arithmetic::product::multiply(f.get(Register::A), w);
-    let sts = arithmetic::adder::with_overflow(p.overflow, f.get(Register::Sts));
+    let p = multiply(f.get(Register::A), w);
+    let sts = with_overflow(p.overflow, f.get(Register::Sts));
     f.with(Register::Sts, sts).with(Register::A, p.value)
 }
 
@@ -28,8 +30,8 @@ pub fn loaded(k: Reading, f: File, w: u16) -> File
         Reading::LoadA => f.with(Register::A, w),
         Reading::LoadT => f.with(Register::T, w),
         Reading::LoadX => f.with(Register::X, w),
-        Reading::Add => takes(f, Register::A, a, w, 0),
-        Reading::Subtract => takes(f, Register::A, a, arithmetic::adder::complement(w), 1),
+        Reading::Add => takes(f, Register::A, a, w, false),
+        Reading::Subtract => takes(f, Register::A, a, complement(w), true),
         Reading::And => f.with(Register::A, a & w),
         Reading::Or => f.with(Register::A, a | w),
         Reading::Multiply => multiplied(f, w),

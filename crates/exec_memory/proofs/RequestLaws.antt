@@ -1,114 +1,101 @@
 -- A request's accesses, what was read and stored, and the file that it leaves, as the machine's own definition has
 -- them.
 -- Assumes nothing.
-use Prim.Native.Nat.{ℕ, suc, ◌+◌, ◌≤◌}
-use mathlib.Core.Path.{◌≡◌, refl, ap, sym, ◌∙◌, subst}
-use mathlib.Core.Bool.{Bool, true, false, not, cond}
-use mathlib.Core.List.{List, [], ◌∷◌}
-use native.Mathlib.Nat.{zero-add}
-use native.Mathlib.Omega.{arith}
-use lib.ListN.{length}
-use lib.Dec.{ltb, eqb}
-use Rattle.isa.specs.Machine.{reg, next, next_core, with_file}
+use Rattle.std.proofs.Common.{◌≡◌, ℕ, zero, suc, ◌≤◌, Bool, true, false, not, eqb, ltb, List, [], ◌∷◌, length, get_or, take, refl, sym, ap, subst, ◌∙◌, arith}
+use Rattle.std.specs.declared.option.Option.TheVariants.{None, Some}
+use Rattle.std.specs.declared.result.Result.{Result}
+use Rattle.std.specs.declared.result.Result.TheVariants.{Ok, Err}
+use Rattle.isa.specs.Machine.{next, next_core, with_file}
 use Rattle.isa.specs.Address.{access, sum}
-use Rattle.isa.specs.Instructions.{Completed, loads, storing, memory_request, memory_completion}
+use Rattle.isa.specs.Instructions.{Completed, loads, storing, three_words, memory_request, memory_completion}
 use Rattle.isa.specs.Pages.{Entry, entry_at, slot_of, table_of, some_permit, needed, ring_allows, physical, within_memory}
-use Rattle.isa.specs.Pages.{judged, in_window, translate, marked, Tested, also_at, test_all, passes, words_at}
-use Rattle.isa.specs.Pages.{Lent, lent, store_all}
+use Rattle.isa.specs.Pages.{judged, in_window, translate, marked, Tested, tested_first, test_all}
+use Rattle.isa.specs.Pages.{words_at, words_of, Lent, lent, store_all}
 use Rattle.isa.specs.Step.{part, counted, failed, finished}
 use Rattle.isa.specs.declared.access.Access.{Access}
 use Rattle.isa.specs.declared.access.AccessKind.{AccessKind}
 use Rattle.isa.specs.declared.access.AccessKind.TheVariants.{Read}
 use Rattle.isa.specs.declared.access.Rights.{Rights}
-use Rattle.isa.specs.declared.access.Translation.{Translation}
-use Rattle.isa.specs.declared.access.Translation.TheVariants.{NoAccess, Load, Store, LoadTable, StoreTable}
-use Rattle.isa.specs.declared.access.Translation.TheVariants.{Protection, PageFault, OutOfRange}
-use Rattle.isa.specs.declared.answer.Far.TheVariants.{Nothing}
+use Rattle.isa.specs.declared.access.Triple.{Triple}
+use Rattle.isa.specs.declared.access.Place.{Place}
+use Rattle.isa.specs.declared.access.Place.TheVariants.{Load, Store, LoadTable, StoreTable}
+use Rattle.isa.specs.declared.access.Fault.{Fault}
 use Rattle.isa.specs.declared.instruction.MemoryOp.{MemoryOp}
 use Rattle.isa.specs.declared.instruction.MemoryOp.TheVariants.{Stz, Sta, Stt, Stx, Std, Ldd, Stf, Ldf, Min, Lda}
 use Rattle.isa.specs.declared.instruction.MemoryOp.TheVariants.{Ldt, Ldx, Add, Sub, And, Ora, Mpy, Jmp, Jpl}
 use Rattle.isa.specs.declared.machine.Core.{Core}
 use Rattle.isa.specs.declared.machine.File.{File}
-use Rattle.isa.specs.declared.machine.Register.TheVariants.{D, A, T}
-use Rattle.isa.proofs.Tests.{either, no_both}
+use Rattle.isa.proofs.Tests.{either}
 use Rattle.isa.proofs.Counts.{made_most}
 use Rattle.paging.specs.Outcome.{Outcome}
-use Rattle.paging.proofs.Outcomes.{Found, done, found_within, found_passed, found_failed, fails_other}
-use Rattle.memory_words.specs.Accesses.{several_words, places_of, three_places}
-use Rattle.memory_words.specs.declared.outcome.Places.{Places}
-use Rattle.memory_words.specs.declared.outcome.Places.TheVariants.{Two, Three, Fault}
-use Rattle.memory_words.proofs.OperandLaws.{padded}
-use Rattle.exec_address.specs.Requests.{request_of, completion_of, change_of, words_loaded, words_stored, three_stored}
-use Rattle.exec_address.specs.declared.request.Request.{Request}
-use Rattle.exec_address.specs.declared.request.Request.TheVariants.{Jump, Link, Read as ReadOf, Write as WriteOf}
-use Rattle.exec_address.specs.declared.request.Request.TheVariants.{Several, Update}
+use Rattle.paging.specs.declared.failure.Failure.{Failure}
+use Rattle.paging.proofs.Outcomes.{made_all}
+use Rattle.memory_words.specs.Accesses.{words_from}
 use Rattle.memory_words.specs.declared.location.Location.{Location}
-use Rattle.event.specs.Events.{event_part, by_privilege, ended_part, counted_ending}
+use Rattle.memory_words.proofs.TestLaws.{unmarked_err}
+use Rattle.exec_address.specs.Requests.{request_of, completion_of, words_loaded, words_stored, three_stored}
+use Rattle.exec_address.specs.declared.request.Request.{Request}
+use Rattle.exec_address.specs.declared.request.Request.TheVariants.{Several}
+use Rattle.event.specs.Events.{event_part, by_privilege, ended_part}
 use Rattle.event.specs.declared.Ending.{Ending}
-use Rattle.event.specs.declared.Event.TheVariants.{Fine, Failed}
-use Rattle.exec_memory.specs.Served.{accesses_of, access_count, several_kind, accessed_by, Served, after_exchange}
-use Rattle.exec_address.specs.declared.request.Change.{Change}
-use Rattle.exec_memory.specs.declared.update.Exchanged.{Exchanged}
+use Rattle.event.specs.declared.Event.TheVariants.{Failed}
+use Rattle.exec_memory.specs.Served.{accesses_of, several_kind, accessed_by, Served, ReadWords}
 
 -- ---- a read stores nothing
 
 -- a place that takes no word
-abbrev pub LoadOnly : Translation → Type 0
-LoadOnly NoAccess = Unit {0}
+abbrev pub LoadOnly : Place → Type 0
 LoadOnly (Load p) = Unit {0}
 LoadOnly (Store p) = ⊥
 LoadOnly (LoadTable i) = Unit {0}
 LoadOnly (StoreTable i) = ⊥
-LoadOnly (Protection g) = Unit {0}
-LoadOnly (PageFault g) = Unit {0}
-LoadOnly OutOfRange = Unit {0}
 
-abbrev AllLoadOnly : List Translation → Type 0
+abbrev AllLoadOnly : List Place → Type 0
 AllLoadOnly [] = Unit {0}
 AllLoadOnly (x ∷ xs) = LoadOnly x × AllLoadOnly xs
 
-none_stored : (ps : List Translation) → AllLoadOnly ps → (m t : List ℕ) → store_all m t ps [] ≡ lent m t
+none_stored : (ps : List Place) → AllLoadOnly ps → (m t : List ℕ) → store_all m t ps [] ≡ lent m t
 none_stored [] h m t = refl
-none_stored (NoAccess ∷ ps) h m t = none_stored ps h.1 m t
 none_stored (Load p ∷ ps) h m t = none_stored ps h.1 m t
 none_stored (Store p ∷ ps) h m t = absurd h.0
 none_stored (LoadTable i ∷ ps) h m t = none_stored ps h.1 m t
 none_stored (StoreTable i ∷ ps) h m t = absurd h.0
-none_stored (Protection g ∷ ps) h m t = none_stored ps h.1 m t
-none_stored (PageFault g ∷ ps) h m t = none_stored ps h.1 m t
-none_stored (OutOfRange ∷ ps) h m t = none_stored ps h.1 m t
 
 -- a word is stored at the next place
-pub stored_after : (x y : Translation) → LoadOnly x → (m t : List ℕ) (w : ℕ)
+pub stored_after : (x y : Place) → LoadOnly x → (m t : List ℕ) (w : ℕ)
     → store_all m t (y ∷ []) (w ∷ []) ≡ store_all m t (x ∷ y ∷ []) (w ∷ [])
-stored_after NoAccess y h m t w = refl
 stored_after (Load p) y h m t w = refl
 stored_after (Store p) y h m t w = absurd h
 stored_after (LoadTable i) y h m t w = refl
 stored_after (StoreTable i) y h m t w = absurd h
-stored_after (Protection g) y h m t w = refl
-stored_after (PageFault g) y h m t w = refl
-stored_after OutOfRange y h m t w = refl
 
 -- an access to read is to such a place
-within_loads : (words p : ℕ) → LoadOnly (within_memory words Read p)
-unfolding within_memory
-within_loads words p = either LoadOnly (ltb p words) tt tt
+abbrev Loads : Result Place Fault → Type 0
+Loads (Ok p) = LoadOnly p
+Loads (Err f) = Unit {0}
 
-judged_loads : (e : Entry) (slot words ring a : ℕ) → LoadOnly (judged e slot words ring Read a)
+within_loads : (words p : ℕ) → Loads (within_memory words Read p)
+unfolding within_memory
+within_loads words p = either Loads (ltb p words) tt tt
+
+judged_loads : (e : Entry) (slot words ring a : ℕ) → Loads (judged e slot words ring Read a)
 unfolding judged
 judged_loads e slot words ring a =
-    either LoadOnly (not (some_permit e)) tt
-    (either LoadOnly (not (needed e Read)) tt
-    (either LoadOnly (not (ring_allows e ring)) tt (within_loads words (physical e a))))
+    either Loads (not (some_permit e)) tt
+    (either Loads (not (needed e Read)) tt
+    (either Loads (not (ring_allows e ring)) tt (within_loads words (physical e a))))
 
 read_loads : (t : List ℕ) (words : ℕ) (r : Rights) (alternate : Bool) (a : ℕ)
-    → LoadOnly (translate t words r (access Read alternate a))
+    → Loads (translate t words r (access Read alternate a))
 unfolding translate
 read_loads t words r alternate a =
     let i = slot_of (table_of r alternate) a in
-    either LoadOnly (in_window r a) tt
-    (either LoadOnly r.paging (judged_loads (entry_at r.extended t i) i words r.ring a) (within_loads words a))
+    either Loads (in_window r a) tt
+    (either Loads r.paging (judged_loads (entry_at r.extended t i) i words r.ring a) (within_loads words a))
+
+pub found_loads : (t : List ℕ) (words : ℕ) (r : Rights) (alternate : Bool) (a : ℕ) (p : Place)
+    → Ok p ≡ translate t words r (access Read alternate a) → LoadOnly p
+found_loads t words r alternate a p e = subst Loads (sym e) (read_loads t words r alternate a)
 
 -- accesses to read
 abbrev pub AllRead : List Access → Type 0
@@ -119,196 +106,200 @@ loads_all : (xs : List Access) → AllRead xs → (t : List ℕ) (words : ℕ) (
     → AllLoadOnly (test_all t words r xs).places
 loads_all [] h t words r = tt
 loads_all (x ∷ xs) h t words r =
-    let read = subst (λ (k : AccessKind). LoadOnly (translate t words r (access k x.alternate x.address)))
-    (sym h.0)
-    (read_loads t words r x.alternate x.address) in
-    either (λ (i : Tested). AllLoadOnly i.places) (passes (translate t words r x))
-    (read, loads_all xs h.1 (marked t words r x) words r) tt
-
--- ---- how many accesses are made
-
--- as many as the request has
-count_length : (q : Request) (alternate : Bool) (a : ℕ) → access_count q ≡ length (accesses_of q alternate a)
-count_length Jump alternate a = refl
-count_length Link alternate a = refl
-count_length (ReadOf k) alternate a = refl
-count_length (WriteOf w) alternate a = refl
-count_length (Several store n) alternate a = go (eqb n 2)
+    go (translate t words r x) _
+    (subst (λ (k : AccessKind). Loads (translate t words r (access k x.alternate x.address))) (sym h.0)
+    (read_loads t words r x.alternate x.address))
+    (loads_all xs h.1 (marked t words r x) words r)
   where
-    go : (b : Bool) → cond b 2 3 ≡ suc (suc (length (cond b [] (access (several_kind store) alternate (sum a 2) ∷ []))))
-    go true = refl
-    go false = refl
-count_length (Update k) alternate a = refl
+    go : (y : Result Place Fault) (q : Tested) → Loads y → AllLoadOnly q.places
+        → AllLoadOnly (tested_first t y q).places
+    go (Ok p) q l k = (l, k)
+    go (Err f) q l k = tt
 
-pub three_at_most : (q : Request) → access_count q ≤ 3
-three_at_most Jump = omega arith
-three_at_most Link = omega arith
-three_at_most (ReadOf k) = omega arith
-three_at_most (WriteOf w) = omega arith
-three_at_most (Several store n) = either (λ (x : ℕ). x ≤ 3) (eqb n 2) (omega arith) (omega arith)
-three_at_most (Update k) = omega arith
+-- ---- what the code has of tests
 
--- all of a list, if all passed
-made_all : (t : List ℕ) (words : ℕ) (r : Rights) (xs : List Access) → passes (test_all t words r xs).fault ≡ true
-    → (test_all t words r xs).made ≡ length xs
-made_all t words r [] h = refl
-made_all t words r (x ∷ xs) h = go (passes (translate t words r x)) refl h (made_all (marked t words r x) words r xs)
-  where
-    on : Tested
-    on = test_all (marked t words r x) words r xs
+-- all passed, to the places ps; so many were made, and left the tables u
+pub record Passed (r : Tested) (ps : List Place) (n : ℕ) (u : List ℕ) : Type 0 where
+  pub tables : u ≡ r.tables
+  pub places : ps ≡ r.places
+  pub fault : r.fault ≡ None
+  pub made : r.made ≡ n
 
-    go : (b : Bool) → passes (translate t words r x) ≡ b
-        → passes (cond b (also_at (translate t words r x) on)
-        (record { tables = t; places = []; fault = translate t words r x; made = 1 })).fault ≡ true
-        → (passes on.fault ≡ true → on.made ≡ length xs)
-        → (cond b (also_at (translate t words r x) on)
-        (record { tables = t; places = []; fault = translate t words r x; made = 1 })).made ≡ suc (length xs)
-    go true e p rest = ap suc (rest p)
-    go false e p rest = absurd (no_both (sym e ∙ p))
+-- one failed
+pub record Stopped (r : Tested) (f : Fault) (n : ℕ) (u : List ℕ) : Type 0 where
+  pub tables : u ≡ r.tables
+  pub fault : r.fault ≡ Some f
+  pub made : r.made ≡ n
+
+-- .. under another name of the number
+pub numbered : {r : Tested} {f : Fault} {n k : ℕ} {u : List ℕ} → k ≡ n → Stopped r f n u → Stopped r f k u
+numbered e q = record { tables = q.tables; fault = q.fault; made = q.made ∙ sym e }
+
+pub none_passed : (t : List ℕ) (words : ℕ) (r : Rights) → Passed (test_all t words r []) [] 0 t
+none_passed t words r = record { tables = refl; places = refl; fault = refl; made = refl }
+
+-- the first passed, and those after it passed, or one of them failed; or the first failed
+module _ (t : List ℕ) (words : ℕ) (r : Rights) (x : Access) (xs : List Access) (u : List ℕ)
+    (m : u ≡ marked t words r x) where
+  first_is : (p : Place) → Ok p ≡ translate t words r x
+      → tested_first t (Ok p) (test_all u words r xs) ≡ test_all t words r (x ∷ xs)
+  first_is p e = λ i. tested_first t (e i) (test_all (m i) words r xs)
+
+  pub first_passed : (p : Place) (ps : List Place) (n : ℕ) (v : List ℕ) → Ok p ≡ translate t words r x
+      → Passed (test_all u words r xs) ps n v → Passed (test_all t words r (x ∷ xs)) (p ∷ ps) (suc n) v
+  first_passed p ps n v e q =
+      subst (λ (y : Tested). Passed y (p ∷ ps) (suc n) v) (first_is p e)
+      (record { tables = q.tables; places = ap (p ∷◌) q.places; fault = q.fault; made = ap suc q.made })
+
+  pub then_stopped : (p : Place) (f : Fault) (n : ℕ) (v : List ℕ) → Ok p ≡ translate t words r x
+      → Stopped (test_all u words r xs) f n v → Stopped (test_all t words r (x ∷ xs)) f (suc n) v
+  then_stopped p f n v e q =
+      subst (λ (y : Tested). Stopped y f (suc n) v) (first_is p e)
+      (record { tables = q.tables; fault = q.fault; made = ap suc q.made })
+
+  pub first_stopped : (f : Fault) → Err f ≡ translate t words r x → Stopped (test_all t words r (x ∷ xs)) f 1 u
+  first_stopped f e =
+      let none : u ≡ t = m ∙ unmarked_err t words r x f e in
+      subst (λ (y : Result Place Fault). Stopped (tested_first t y (test_all (marked t words r x) words r xs)) f 1 u) e
+      (record { tables = none; fault = refl; made = refl })
+
+-- .. of so many words
+length_from : (k : AccessKind) (alternate : Bool) (a n : ℕ) → length (words_from k alternate a n) ≡ n
+length_from k alternate a zero = refl
+length_from k alternate a (suc n) = ap suc (length_from k alternate (sum a 1) n)
+
+module _ (t : List ℕ) (words : ℕ) (r : Rights) (k : AccessKind) (alternate : Bool) (a n : ℕ) (u : List ℕ) where
+  abbrev tests : Tested
+  tests = test_all t words r (words_from k alternate a n)
+
+  pub all_passed : (ps : List Place) → Outcome tests (Ok ps) → u ≡ tests.tables → Passed tests ps n u
+  all_passed ps o e = record {
+    tables = e;
+    places = sym o.1;
+    fault = o.0;
+    made = made_all t words r (words_from k alternate a n) o.0 ∙ length_from k alternate a n;
+  }
+
+  pub one_stopped : (e : Failure) → Outcome tests (Err e) → u ≡ tests.tables → Stopped tests e.fault e.made u
+  one_stopped e o h = record { tables = h; fault = o.0; made = o.1 }
+
+-- three words as STF and LDF ask for them
+three_from : (k : AccessKind) (alternate : Bool) (a : ℕ) → words_from k alternate a 3 ≡ three_words k alternate a
+three_from k alternate a =
+    let e : sum (sum a 1) 1 ≡ sum a 2 = omega arith in
+    λ i. access k alternate a ∷ access k alternate (sum a 1) ∷ access k alternate (e i) ∷ []
 
 -- ---- the end of a stage
 
 -- the completed file, and the words of the completion stored at the places
-fine_part : (l : ℕ) (c : Core) {g : File} {e : Ending} (all : ℕ) (m t : List ℕ) (ps : List Translation) (k : Completed)
-    {m' t' : List ℕ} → e ≡ record { references = 0; event = Fine; file = g } → g ≡ k.file → k.error ≡ false
+fine_part : (l : ℕ) (c : Core) {g : File} {e : Ending} (n : ℕ) (m t : List ℕ) (ps : List Place) (k : Completed)
+    {m' t' : List ℕ} → e ≡ record { references = n; event = None; file = g } → g ≡ k.file → k.error ≡ false
     → lent m' t' ≡ store_all m t ps k.stores
-    → ended_part l c (counted_ending 0 all e) m' t' ≡ counted all (finished c m t ps k)
+    → ended_part l c e m' t' ≡ counted n (finished c m t ps k)
 unfolding event_part by_privilege finished
-fine_part l c all m t ps k y h n s =
-    rw (y, h, n)
-    (ap (λ (i : Lent). counted all (part (with_file c k.file) 0 Nothing i.memory i.tables)) s)
+fine_part l c n m t ps k y h z s =
+    rw (y, h, z)
+    (ap (λ (i : Lent). counted n (part (with_file c k.file) 0 None i.memory i.tables)) s)
 
 -- all accesses passed, or one failed
-module _ (c : Core) (m : List ℕ) (k : List ℕ → Completed) (r : Tested) {u : List ℕ} {z : Translation}
-    (e : u ≡ r.tables) (q : z ≡ r.fault) where
-  tested_passed : {ps : List Translation} → ps ≡ r.places → passes z ≡ true
-      → accessed_by c m k r ≡ counted r.made (finished c m u ps (k (words_at m u ps)))
+module _ (c : Core) (m : List ℕ) (k : List ℕ → Completed) (r : Tested) {u : List ℕ} {n : ℕ} where
+  tested_passed : {ps : List Place} → Passed r ps n u
+      → counted n (finished c m u ps (k (words_at m u ps))) ≡ accessed_by c m k r
   unfolding accessed_by
-  tested_passed h p = rw (e, h) (simp (ap passes (sym q) ∙ p))
+  tested_passed q = rw (q.tables, q.places, q.fault, ← q.made) refl
 
-  tested_failed : passes z ≡ false → accessed_by c m k r ≡ counted r.made (failed (next_core c) z m u)
+  tested_failed : {f : Fault} → Stopped r f n u → counted n (failed (next_core c) f m u) ≡ accessed_by c m k r
   unfolding accessed_by
-  tested_failed p = rw (e, q) (simp (ap passes (sym q) ∙ p))
+  tested_failed q = rw (q.tables, q.fault, ← q.made) refl
 
 -- what was found of a request in the file f
-module _ (f : File) (m : List ℕ) {t : List ℕ} (q : Request) (x : Location) {ps : List Translation} {z : Translation}
-    {made : ℕ} {u : List ℕ}
-    (o : Outcome t (length m) x.rights [] (accesses_of q x.alternate x.address) ps z made u) where
-  -- its completion, by the words at the places
-  abbrev by : Completed
-  by = completion_of q f x.address (words_at m u ps)
+module _ (f : File) (m t u : List ℕ) (q : Request) (x : Location) (n : ℕ) (few : n ≤ 3) where
+  abbrev asked : Tested
+  asked = test_all t (length m) x.rights (accesses_of q x.alternate x.address)
 
-  abbrev xs : List Access
-  xs = accesses_of q x.alternate x.address
+  module _ (ps : List Place) (o : Passed asked ps n u) {g : File} {e : Ending}
+      (y : e ≡ record { references = n; event = None; file = g }) where
+    -- its completion, by the words at the places
+    abbrev by : Completed
+    by = completion_of q f x.address (words_at m u ps)
 
-  module _ (p : passes z ≡ true) {g : File} {e : Ending}
-      (y : e ≡ record { references = 0; event = Fine; file = g }) where
     -- all accesses passed, and the words vs were stored
     pub stores : {vs m' t' : List ℕ} → storing g vs ≡ by → lent m' t' ≡ store_all m u ps vs → Served f q x m t e m' t'
     stores {vs} {m'} {t'} i s = record {
-      most = rw y (omega arith);
+      most = rw y few;
       part = λ l c h.
-          let n : by.error ≡ false = ap (λ (k : Completed). k.error) (sym i) in
+          let z : by.error ≡ false = ap (λ (k : Completed). k.error) (sym i) in
           let v : lent m' t' ≡ store_all m u ps by.stores =
           s ∙ ap (λ (k : Completed). store_all m u ps k.stores) i in
-          let r : Tested = test_all t (length m) x.rights xs in
-          let all : access_count q ≡ r.made =
-          count_length q x.alternate x.address
-          ∙ sym (made_all t (length m) x.rights xs (ap passes (sym o.failed) ∙ p)) in
           rw (h.file, h.rights)
-          (fine_part l c (access_count q) m u ps by y (ap (λ (k : Completed). k.file) i) n v
-          ∙ ap (λ (j : ℕ). counted j (finished c m u ps by)) all
-          ∙ sym (tested_passed c m (completion_of q f x.address) r o.tables o.failed (o.passed p) p));
+          (fine_part l c n m u ps by y (ap (λ (k : Completed). k.file) i) z v
+          ∙ tested_passed c m (completion_of q f x.address) asked o);
     }
 
     -- .. or read
-    pub reads : AllRead xs → loads g ≡ by → Served f q x m t e m u
+    pub reads : AllRead (accesses_of q x.alternate x.address) → loads g ≡ by → Served f q x m t e m u
     reads a i =
-        stores i (sym (none_stored ps (rw (o.passed p) (loads_all xs a t (length m) x.rights)) m u))
+        let xs = accesses_of q x.alternate x.address in
+        stores i (sym (none_stored ps (rw o.places (loads_all xs a t (length m) x.rights)) m u))
 
   -- one failed
-  pub fails : passes z ≡ false → {e : Ending} → e ≡ record { references = made; event = Failed z; file = f }
+  pub fails : {z : Fault} → Stopped asked z n u → {e : Ending}
+      → e ≡ record { references = n; event = Some (Failed z); file = f }
       → Served f q x m t e m u
   unfolding event_part by_privilege
-  fails p y =
-      let r : Tested = test_all t (length m) x.rights xs in
-      let few : made ≤ 3 =
-      omega (
-        arith,
-        o.count,
-        made_most t (length m) x.rights xs,
-        count_length q x.alternate x.address,
-        three_at_most q,
-      ) in
-      record {
-        most = rw y few;
-        part = λ l c h.
-            let d = tested_failed c m (completion_of q (next c.file) x.address) r o.tables o.failed p in
-            let n : 0 + made ≡ r.made = zero-add made ∙ o.count ∙ zero-add r.made in
-            rw (y, h.rights, ← h.file) (ap (λ (j : ℕ). counted j (failed (next_core c) z m u)) n ∙ sym d);
-      }
-
--- the access to read a word found a place that takes none
-pub found_loads :
-    {t : List ℕ} {words : ℕ} {r : Rights} {alternate : Bool} {a : ℕ} {y : Translation} {n : ℕ} {v : List ℕ}
-    → Found t words r (access Read alternate a) y n v → LoadOnly y
-found_loads f = rw f.place (read_loads _ _ _ _ _)
-
--- an access failed, whatever was asked for after it
-module _ {t : List ℕ} {words : ℕ} {r : Rights} {x : Access} {y : Translation} {n : ℕ} {v : List ℕ}
-    (f : Found t words r x y n v) (e : n ≡ 0 → ⊥) where
-  pub failed_outcome : {before : List Translation} {xs : List Access}
-      → Outcome t words r before (x ∷ xs) [] y (length before + 1) v
-  failed_outcome = found_failed f e tt
-
-  pub failed_test : passes y ≡ false
-  failed_test = fails_other y f.fault e
-
--- the first access of a request failed
-pub access_fails : (f : File) (m : List ℕ) {t : List ℕ} (q : Request) (x : Location) {y : Access} {ys : List Access}
-    {z : Translation} {n : ℕ} {v : List ℕ} → y ∷ ys ≡ accesses_of q x.alternate x.address
-    → Found t (length m) x.rights y z n v → (n ≡ 0 → ⊥) → {e : Ending}
-    → e ≡ record { references = 1; event = Failed z; file = f } → Served f q x m t e m v
-access_fails f m {t} q x {z = z} {v = v} e k h y =
-    let o : Outcome t (length m) x.rights [] (accesses_of q x.alternate x.address) [] z 1 v =
-    rw (← e) (failed_outcome k h) in
-    fails f m q x o (failed_test k h) y
-
--- one access passed
-pub one_passed :
-    {t : List ℕ} {words : ℕ} {r : Rights} {x : Access} {y : Translation} {n : ℕ} {v : List ℕ}
-    → Found t words r x y n v → n ≡ 0
-    → Outcome t words r [] (x ∷ []) (y ∷ []) NoAccess 1 v
-one_passed f e = found_passed f e (done (found_within f, tt))
-
--- .. and then another
-pub both_passed :
-    {t : List ℕ} {words : ℕ} {r : Rights} {x : Access} {y : Translation} {n : ℕ} {v : List ℕ} {x' : Access}
-    {y' : Translation} {n' : ℕ}
-    {v' : List ℕ} → Found t words r x y n v → n ≡ 0 → Found v words r x' y' n' v' → n' ≡ 0
-    → Outcome t words r [] (x ∷ x' ∷ []) (y ∷ y' ∷ []) NoAccess 2 v'
-both_passed f e g h = found_passed f e (found_passed g h (done (found_within f, (found_within g, tt))))
-
--- ---- a word that is changed
-
-module _ (f : File) (k : Change) (x : Exchanged) where
-  pub change_failed : passes x.fault ≡ false
-      → after_exchange f k x ≡ record { references = x.made; event = Failed x.fault; file = f }
-  change_failed h = simp h
-
-  pub change_done : passes x.fault ≡ true
-      → after_exchange f k x ≡ record { references = 0; event = Fine; file = (change_of k f x.word).file }
-  change_done h = simp h
+  fails o y = record {
+    most = rw y few;
+    part = λ l c h. rw (y, h.rights, ← h.file) (tested_failed c m (completion_of q (next c.file) x.address) asked o);
+  }
 
 -- ---- two or three words
 
--- the same accesses, fault and number made
-pub renamed :
-    {t : List ℕ} {words : ℕ} {r : Rights} {k j : AccessKind} {alternate : Bool} {a : ℕ} (n : ℕ) {ps : List Translation}
-    {y z : Translation} {i made : ℕ} {u : List ℕ}
-    → k ≡ j → y ≡ z → i ≡ made → Outcome t words r [] (several_words k alternate a n) ps z made u
-    → Outcome t words r [] (several_words j alternate a n) ps y i u
-renamed n e q h o = rw (← e, q, h) o
+-- they are asked for from their address on
+pub accesses_two : (store : Bool) (n : ℕ) (k : AccessKind) (alternate : Bool) (a : ℕ) → several_kind store ≡ k
+    → eqb n 2 ≡ true → accesses_of (Several store n) alternate a ≡ words_from k alternate a 2
+accesses_two store n k alternate a e h = rw (e, h) refl
+
+pub accesses_three : (store : Bool) (n : ℕ) (k : AccessKind) (alternate : Bool) (a : ℕ) → several_kind store ≡ k
+    → eqb n 2 ≡ false → accesses_of (Several store n) alternate a ≡ words_from k alternate a 3
+accesses_three store n k alternate a e h = rw (e, h) (sym (three_from k alternate a))
+
+-- LDD loads two of them, LDF three
+pub two_loaded : (n : ℕ) (g : File) (ws : List ℕ) → eqb n 2 ≡ true
+    → words_loaded n g (get_or ws 0 0 ∷ get_or ws 1 0 ∷ 0 ∷ []) ≡ words_loaded n g ws
+two_loaded n g ws e = rw e refl
+
+pub three_loaded : (n : ℕ) (g : File) (ws : List ℕ) → eqb n 2 ≡ false
+    → words_loaded n g (get_or ws 0 0 ∷ get_or ws 1 0 ∷ get_or ws 2 0 ∷ []) ≡ words_loaded n g ws
+three_loaded n g ws e = rw e refl
+
+-- what was read of them
+pub read_passed : (t : List ℕ) (m : List ℕ) (x : Location) (q : Request) (n : ℕ) (u ws : List ℕ)
+    → accesses_of q x.alternate x.address ≡ words_from Read x.alternate x.address n → ReadWords x n m t (Ok ws) u
+    → Passed (test_all t (length m) x.rights (accesses_of q x.alternate x.address))
+    (test_all t (length m) x.rights (words_from Read x.alternate x.address n)).places n u
+read_passed t m x q n u ws e r =
+    let places = (test_all t (length m) x.rights (words_from Read x.alternate x.address n)).places in
+    subst (λ (xs : List Access). Passed (test_all t (length m) x.rights xs) places n u) (sym e)
+    (all_passed t (length m) x.rights Read x.alternate x.address n u places (r.0, refl) r.2)
+
+pub read_stopped : (t : List ℕ) (m : List ℕ) (x : Location) (q : Request) (n : ℕ) (u : List ℕ) (e : Failure)
+    → accesses_of q x.alternate x.address ≡ words_from Read x.alternate x.address n → ReadWords x n m t (Err e) u
+    → Stopped (test_all t (length m) x.rights (accesses_of q x.alternate x.address)) e.fault e.made u
+read_stopped t m x q n u e h r =
+    subst (λ (xs : List Access). Stopped (test_all t (length m) x.rights xs) e.fault e.made u) (sym h)
+    (one_stopped t (length m) x.rights Read x.alternate x.address n u e (r.0, r.1) r.2)
+
+-- no more of several were made than there are
+pub made_few : (t : List ℕ) (words : ℕ) (r : Rights) (k : AccessKind) (alternate : Bool) (a n made : ℕ) → n ≤ 3
+    → (test_all t words r (words_from k alternate a n)).made ≡ made → made ≤ 3
+made_few t words r k alternate a n made h e =
+    let xs = words_from k alternate a n in
+    let most = made_most t words r xs in
+    let l = length_from k alternate a n in omega (arith, h, e, most, l)
+
+pub all_read : (alternate : Bool) (a n : ℕ) → AllRead (words_from Read alternate a n)
+all_read alternate a zero = tt
+all_read alternate a (suc n) = (refl, all_read alternate (sum a 1) n)
 
 module _ {store : Bool} (n : ℕ) where
   pub several_stored : store ≡ true → (g : File) (a : ℕ) (ws : List ℕ)
@@ -319,27 +310,13 @@ module _ {store : Bool} (n : ℕ) where
       → loads (words_loaded n g ws) ≡ completion_of (Several store n) g a ws
   several_loaded e g a ws = rw e refl
 
-  pub several_read : store ≡ false → (alternate : Bool) (a : ℕ)
-      → AllRead (several_words (several_kind store) alternate a n)
-  several_read e alternate a = rw e (refl, (refl, either AllRead (eqb n 2) tt (refl, tt)))
+-- STD's two words, and STF's three
+pub two_stored : (n : ℕ) (g : File) (w : Triple) → eqb n 2 ≡ true → words_of w ≡ three_stored n g
+    → w.a ∷ w.b ∷ [] ≡ words_stored n g
+two_stored n g w e h = rw e (ap (take 2) (rw e at h))
 
--- LDD reads no third word
-pub loaded_three :
-    (m t : List ℕ) (p : Places) (n : ℕ) (g : File)
-    → words_loaded n g (words_at m t (three_places p)) ≡ words_loaded n g (words_at m t (places_of p))
-loaded_three m t (Two x y) n g = refl
-loaded_three m t (Three x y z) n g = refl
-loaded_three m t (Fault x j) n g = refl
-
--- STD's third word is not there
-pub three_stored_law : (m t : List ℕ) (ps : List Translation) (n : ℕ) (g : File)
-    → store_all m t ps (three_stored n g) ≡ store_all m t ps (words_stored n g)
-three_stored_law m t ps n g = go (eqb n 2)
-  where
-    go : (b : Bool) → store_all m t ps (cond b (reg g A ∷ reg g D ∷ 0 ∷ []) (reg g T ∷ reg g A ∷ reg g D ∷ []))
-        ≡ store_all m t ps (cond b (reg g A ∷ reg g D ∷ []) (reg g T ∷ reg g A ∷ reg g D ∷ []))
-    go true = padded m t ps (reg g A ∷ reg g D ∷ [])
-    go false = refl
+pub three_stored_law : (n : ℕ) (g : File) → eqb n 2 ≡ false → three_stored n g ≡ words_stored n g
+three_stored_law n g e = rw e refl
 
 -- ---- memory operations
 

@@ -1,7 +1,6 @@
 -- The stages as the machine's own definition has them: an unprivileged instruction, and the fetch.
 -- Assumes nothing.
-use Prim.Native.Nat.{ℕ, ◌+◌, ◌<◌, ◌≤◌}
-use native.Mathlib.Nat.{zero-add}
+use Prim.Native.Nat.{ℕ, ◌<◌, ◌≤◌}
 use native.Mathlib.Omega.{arith}
 use mathlib.Core.Path.{◌≡◌, refl, ap, sym, ◌∙◌, subst}
 use mathlib.Core.Bool.{Bool, true, false, cond, not}
@@ -13,6 +12,10 @@ use borrow.Author.Tests.{ltb-false, leb-true, not-false}
 use mir.Syntax.{w16}
 use mir.Val.{SFits, to_z, of_z}
 use mir.ValLaws.{to_z-of_z}
+use Rattle.std.specs.declared.option.Option.{Option}
+use Rattle.std.specs.declared.option.Option.TheVariants.{None, Some}
+use Rattle.std.specs.declared.result.Result.{Result}
+use Rattle.std.specs.declared.result.Result.TheVariants.{Ok, Err}
 use Rattle.isa.proofs.Tests.{either, decided}
 use Rattle.isa.proofs.Counts.{counted_twice, counted_none}
 use Rattle.isa.specs.Machine.{reg, next, next_core, with_file, ring_of}
@@ -20,16 +23,17 @@ use Rattle.isa.specs.Address.{access, first_rule, first_address, address_rule, i
 use Rattle.isa.specs.Address.{byte_address}
 use Rattle.isa.specs.Instructions.{Completed, indirect_request, request, complete, memory_request, memory_completion}
 use Rattle.isa.specs.Pages.{Entry, entry_at, slot_of, some_permit, needed, ring_allows, physical, within_memory, judged}
-use Rattle.isa.specs.Pages.{in_window, translate, Tested, test_all, words_at, word_at, rights_of, passes, lowered}
+use Rattle.isa.specs.Pages.{in_window, translate, marked, Tested, test_all, after_test, words_at, word_at, rights_of}
+use Rattle.isa.specs.Pages.{lowered}
 use Rattle.isa.specs.Pages.{lowered_pcr}
 use Rattle.isa.specs.Step.{Part, finished, operands, operands_tested, indirect_tested, user_stage, failed, after_fetch}
 use Rattle.isa.specs.Step.{privileged, counted}
 use Rattle.isa.specs.declared.access.Access.{Access}
 use Rattle.isa.specs.declared.access.AccessKind.TheVariants.{Fetch, Indirect}
 use Rattle.isa.specs.declared.access.Rights.{Rights}
-use Rattle.isa.specs.declared.access.Translation.{Translation}
-use Rattle.isa.specs.declared.access.Translation.TheVariants.{NoAccess, Load, Store, LoadTable, StoreTable}
-use Rattle.isa.specs.declared.access.Translation.TheVariants.{Protection, PageFault, OutOfRange}
+use Rattle.isa.specs.declared.access.Place.{Place}
+use Rattle.isa.specs.declared.access.Place.TheVariants.{Load, Store, LoadTable, StoreTable}
+use Rattle.isa.specs.declared.access.Fault.{Fault}
 use Rattle.isa.specs.declared.instruction.MemoryOp.{MemoryOp}
 use Rattle.isa.specs.declared.instruction.Mode.{Mode}
 use Rattle.isa.specs.declared.instruction.User.{User}
@@ -49,21 +53,19 @@ use Rattle.exec_address.specs.declared.request.Request.TheVariants.{Read, Update
 use Rattle.exec_address.specs.declared.request.Change.TheVariants.{PutByte}
 use Rattle.exec_address.specs.declared.request.Reading.TheVariants.{Byte}
 use Rattle.exec_address.proofs.Laws.{first_address_law, indirect_access_law, effective_address_law}
-use Rattle.paging.proofs.Outcomes.{Found, found_passed, found_failed, found_within, fails_other, done}
+use Rattle.paging.proofs.Laws.{passed}
 use Rattle.paging.proofs.Levels.{same_ring}
 use Rattle.paging.specs.Levels.{level_rights}
-use Rattle.paging.specs.Outcome.{Outcome}
 use Rattle.memory_words.specs.declared.location.Location.{Location}
-use Rattle.event.specs.Events.{event_part, is_fine, ending_of, counted_ending, by_privilege, ended_part}
+use Rattle.event.specs.Events.{event_part, ending_of, after_references, by_privilege, ended_part}
 use Rattle.event.specs.declared.Ending.{Ending}
 use Rattle.event.specs.declared.Event.{Event}
-use Rattle.event.specs.declared.Event.TheVariants.{Fine, Error, Failed as Faulted}
-use Rattle.exec_memory.specs.Served.{Executing, accesses_of, access_count, accessed_by, requested, Served}
-use Rattle.exec_memory.proofs.RequestLaws.{request_serves}
+use Rattle.event.specs.declared.Event.TheVariants.{Error, Failed as Faulted}
+use Rattle.exec_memory.specs.Served.{Executing, accesses_of, accessed_by, requested, Served}
+use Rattle.exec_memory.proofs.RequestLaws.{Passed, Stopped, none_passed, first_passed, first_stopped, request_serves}
 use Rattle.exec_memory.specs.Stages.{ExecutingAt, ByIndirect, Addressed, UserStage, byte_location, addressed}
 use Rattle.exec_memory.specs.Stages.{after_indirect_word, level_core, ring_from, ring_after}
 use Rattle.exec_memory.specs.declared.address.Effective.{Effective}
-use Rattle.exec_memory.specs.declared.address.Effective.TheVariants.{At, Failed}
 
 -- ---- a request
 
@@ -85,27 +87,32 @@ requested_is c m t u i q alternate a e h =
 
 -- ---- the indirect word
 
+-- an effective address, by its parts
+abbrev effective : Bool → ℕ → ℕ → Effective
+effective b a n = record { alternate = b; address = a; read = n }
+
 -- the access for it passed, or failed
 word_passed :
-    (c : Core) (m : List ℕ) (o : MemoryOp) (md : Mode) (k : Tested) (x : Translation) (v : List ℕ) (b : Bool) (e : ℕ)
-    → v ≡ k.tables → x ∷ [] ≡ k.places → NoAccess ≡ k.fault → b ≡ address_rule md
-    → e ≡ after_indirect md (next c.file) (word_at m v x) → k.made ≡ 1
-    → addressed c m v o (At b e 1) ≡ after_indirect_word c m o md k
+    (c : Core) (m : List ℕ) (o : MemoryOp) (md : Mode) (k : Tested) (p : Place) (v : List ℕ) (b : Bool) (e : ℕ)
+    → Passed k (p ∷ []) 1 v → b ≡ address_rule md → e ≡ after_indirect md (next c.file) (word_at m v p)
+    → addressed c m v o (Ok (effective b e 1)) ≡ after_indirect_word c m o md k
 unfolding addressed after_indirect_word
-word_passed c m o md k x v b e t p n q h j = simp (q, h, t, ← p, ← n, j)
+word_passed c m o md k p v b e f q h = rw (q, h, f.fault, f.made, ← f.tables, ← f.places) refl
 
 word_failed :
-    (c : Core) (m : List ℕ) (o : MemoryOp) (md : Mode) (k : Tested) (x : Translation) (v : List ℕ)
-    → v ≡ k.tables → x ≡ k.fault → passes x ≡ false → k.made ≡ 1
-    → addressed c m v o (Failed x) ≡ after_indirect_word c m o md k
+    (c : Core) (m : List ℕ) (o : MemoryOp) (md : Mode) (k : Tested) (x : Fault) (v : List ℕ) → Stopped k x 1 v
+    → addressed c m v o (Err x) ≡ after_indirect_word c m o md k
 unfolding addressed after_indirect_word
-word_failed c m o md k x v t n h j = simp (ap passes (sym n) ∙ h, t, n, j)
+word_failed c m o md k x v f = rw (f.fault, f.made, ← f.tables) refl
 
-module _ (g : File) (m : List ℕ) (md : Mode) {t : List ℕ} {r : Rights} {b : Bool} {a : ℕ} {x : Translation} {n : ℕ}
-    {v : List ℕ} (q : b ≡ first_rule md) (f : Found t (length m) r (access Indirect b a) x n v) where
+module _ (g : File) (m t v : List ℕ) (md : Mode) (r : Rights) (b : Bool) (a : ℕ) (q : b ≡ first_rule md)
+    (marks : v ≡ marked t (length m) r (access Indirect b a)) where
+  abbrev word : Tested
+  word = test_all t (length m) r (access Indirect b a ∷ [])
+
   -- in a core that executes the instruction
   judged_in : (c : Core) (o : MemoryOp) → Executing c g r
-      → after_indirect_word c m o md (test_all t (length m) r (access Indirect b a ∷ []))
+      → after_indirect_word c m o md word
       ≡ after_indirect_word c m o md (test_all t (length m) (rights_of c) (access Indirect (first_rule md) a ∷ []))
   judged_in c o s =
       ap (λ (h : Rights). after_indirect_word c m o md (test_all t (length m) h (access Indirect b a ∷ [])))
@@ -113,26 +120,25 @@ module _ (g : File) (m : List ℕ) (md : Mode) {t : List ℕ} {r : Rights} {b : 
       ∙ ap (λ (h : Bool). after_indirect_word c m o md (test_all t (length m) (rights_of c) (access Indirect h a ∷ [])))
       q
 
-  pub indirect_passed : (i : Bool) (e : ℕ) → n ≡ 0 → i ≡ address_rule md → e ≡ after_indirect md g (word_at m v x)
-      → ByIndirect g r md a m t (At i e 1) v
-  indirect_passed i e z j h =
-      let k : Outcome t (length m) r [] (access Indirect b a ∷ []) (x ∷ []) NoAccess 1 v =
-      found_passed f z (done (found_within f, tt)) in (
+  pub indirect_passed : (p : Place) (i : Bool) (e : ℕ) → Ok p ≡ translate t (length m) r (access Indirect b a)
+      → i ≡ address_rule md → e ≡ after_indirect md g (word_at m v p)
+      → ByIndirect g r md a m t (Ok (effective i e 1)) v
+  indirect_passed p i e z j h =
+      let k : Passed word (p ∷ []) 1 v =
+      first_passed t (length m) r (access Indirect b a) [] v marks p [] 0 v z (none_passed v (length m) r) in (
         omega arith,
         λ c o s.
-            let w : e ≡ after_indirect md (next c.file) (word_at m v x) =
-            h ∙ ap (λ (y : File). after_indirect md y (word_at m v x)) (sym s.file) in
-            let once : (test_all t (length m) r (access Indirect b a ∷ [])).made ≡ 1 = omega (arith, k.count) in
-            word_passed c m o md _ x v i e k.tables (k.passed refl) k.failed j w once ∙ judged_in c o s,
+            let w : e ≡ after_indirect md (next c.file) (word_at m v p) =
+            h ∙ ap (λ (y : File). after_indirect md y (word_at m v p)) (sym s.file) in
+            word_passed c m o md word p v i e k j w ∙ judged_in c o s,
       )
 
-  pub indirect_failed : (n ≡ 0 → ⊥) → ByIndirect g r md a m t (Failed x) v
-  indirect_failed z =
-      let k : Outcome t (length m) r [] (access Indirect b a ∷ []) [] x 1 v = found_failed f z tt in (
+  pub indirect_failed : (x : Fault) → Err x ≡ translate t (length m) r (access Indirect b a)
+      → ByIndirect g r md a m t (Err x) v
+  indirect_failed x z =
+      let k : Stopped word x 1 v = first_stopped t (length m) r (access Indirect b a) [] v marks x z in (
         omega arith,
-        λ c o s.
-            let once : (test_all t (length m) r (access Indirect b a ∷ [])).made ≡ 1 = omega (arith, k.count) in
-            word_failed c m o md _ x v k.tables k.failed (fails_other x f.fault z) once ∙ judged_in c o s,
+        λ c o s. word_failed c m o md word x v k ∙ judged_in c o s,
       )
 
 -- ---- the effective address
@@ -168,7 +174,7 @@ after_word :
 unfolding indirect_tested after_indirect_word
 after_word c m o md d k h =
     let i = get_or (words_at m k.tables k.places) 0 0 in
-    ap (λ (p : Part). counted k.made (cond (passes k.fault) p (failed (next_core c) k.fault m k.tables)))
+    ap (λ (p : Part). counted k.made (after_test k.fault p (λ x. failed (next_core c) x m k.tables)))
     (at_address c m k.tables o md d i (after_indirect md (next c.file) i)
     (sym (simp h at (effective_address_law md d c.file i))))
 
@@ -202,7 +208,8 @@ direct_stage c m t o md d h =
 
 -- what the code found of either in the file g, with the first address x
 module _ (g : File) (m t : List ℕ) (a : ℕ) (r : Rights) (md : Mode) (d : ℤ) (x : ℕ) (p : x ≡ first_at md d g a) where
-  pub addressed_indirect : (e : Effective) (v : List ℕ) → has_indirect md ≡ true → ByIndirect g r md x m t e v
+  pub addressed_indirect : (e : Result Effective Fault) (v : List ℕ) → has_indirect md ≡ true
+      → ByIndirect g r md x m t e v
       → Addressed g a r md d m t e v
   addressed_indirect e v h f = (
     f.0,
@@ -215,7 +222,7 @@ module _ (g : File) (m t : List ℕ) (a : ℕ) (r : Rights) (md : Mode) (d : ℤ
   )
 
   pub addressed_direct : (b : Bool) → has_indirect md ≡ false → b ≡ address_rule md
-      → Addressed g a r md d m t (At b x 0) t
+      → Addressed g a r md d m t (Ok (effective b x 0)) t
   unfolding addressed
   addressed_direct b h q = (
     omega arith,
@@ -229,27 +236,24 @@ module _ (g : File) (m t : List ℕ) (a : ℕ) (r : Rights) (md : Mode) (d : ℤ
 
 -- LBYT and SBYT, whose address P has no part in
 module _ (g : File) (m t : List ℕ) (at : ℕ) (r : Rights) {x : Location} (p : x ≡ byte_location r g) (z : Ending)
-    (m' t' : List ℕ) {u : User} {w : Ending} where
+    (m' t' : List ℕ) {u : User} where
   byte_served : (v : User) (q : Request) → u ≡ v
       → ((f : File) → accesses_of q true (byte_address f) ≡ request v f 0)
       → ((f : File) (vs : List ℕ) → completion_of q (next f) (byte_address f) vs ≡ complete v f 0 vs)
-      → ((f : File) → indirect_request v f ≡ []) → Served g q x m t z m' t' → w ≡ counted_ending 0 (access_count q) z
-      → UserStage g at r u m t w m' t'
-  byte_served v q e i h n f j l c s =
+      → ((f : File) → indirect_request v f ≡ []) → Served g q x m t z m' t'
+      → UserStage g at r u m t z m' t'
+  byte_served v q e i h n f l c s =
       let b = c.file in
-      ap (λ (y : Ending). ended_part l c y m' t') j
-      ∙ (subst (λ (y : Location). Served g q y m t z m' t') p f).part l c s.executing
+      (subst (λ (y : Location). Served g q y m t z m' t') p f).part l c s.executing
       ∙ ap (λ (y : File). requested c m t q true (byte_address y)) (sym s.executing.file)
       ∙ requested_is c m t v 0 q true (byte_address b) (i b) (h b)
       ∙ no_indirect c m t v (n b)
       ∙ ap (user_stage c m t) (sym e)
 
-  pub byte_read : u ≡ LoadByte → Served g (Read Byte) x m t z m' t' → w ≡ counted_ending 0 1 z
-      → UserStage g at r u m t w m' t'
+  pub byte_read : u ≡ LoadByte → Served g (Read Byte) x m t z m' t' → UserStage g at r u m t z m' t'
   byte_read e = byte_served LoadByte (Read Byte) e (λ f. refl) (λ f vs. refl) (λ f. refl)
 
-  pub byte_put : u ≡ StoreByte → Served g (Update PutByte) x m t z m' t' → w ≡ counted_ending 0 2 z
-      → UserStage g at r u m t w m' t'
+  pub byte_put : u ≡ StoreByte → Served g (Update PutByte) x m t z m' t' → UserStage g at r u m t z m' t'
   byte_put e = byte_served StoreByte (Update PutByte) e (λ f. refl) (λ f vs. refl) (λ f. refl)
 
 -- an instruction that is none of the three makes no access
@@ -282,7 +286,7 @@ module _ (c : Core) (m t : List ℕ) where
 -- ---- an ending
 
 -- the file is left as it is
-pub file_left : {c : Core} {f : File} {r : Rights} (l : ℕ) (m t : List ℕ) {z : Ending} {n : ℕ} {e : Event}
+pub file_left : {c : Core} {f : File} {r : Rights} (l : ℕ) (m t : List ℕ) {z : Ending} {n : ℕ} {e : Option Event}
     → Executing c f r → z ≡ record { references = n; event = e; file = f }
     → ended_part l c z m t ≡ counted n (event_part l (next_core c) m t (by_privilege (privileged c) e))
 file_left {c} l m t {n = n} {e = e} s q =
@@ -290,26 +294,20 @@ file_left {c} l m t {n = n} {e = e} s q =
     ∙ ap (λ (g : File). counted n (event_part l (with_file c g) m t (by_privilege (privileged c) e))) (sym s.file)
 
 -- the references before a request, and its own
-counted_ending_law : (l : ℕ) (c : Core) (m t : List ℕ) (n k : ℕ) (e : Ending)
-    → ended_part l c (counted_ending n (n + k) e) m t ≡ counted n (ended_part l c (counted_ending 0 k e) m t)
-counted_ending_law l c m t n k e =
-    let left = event_part l (with_file c e.file) m t (by_privilege (privileged c) e.event) in
-    ap (λ (j : ℕ). counted j left) (sum (is_fine e.event))
-    ∙ sym (counted_twice n (cond (is_fine e.event) k (0 + e.references)) left)
-  where
-    sum : (b : Bool) → cond b (n + k) (n + e.references) ≡ n + cond b k (0 + e.references)
-    sum true = refl
-    sum false = ap (n +◌) (sym (zero-add e.references))
+after_references_law : (l : ℕ) (c : Core) (m t : List ℕ) (n : ℕ) (e : Ending)
+    → ended_part l c (after_references n e) m t ≡ counted n (ended_part l c e m t)
+after_references_law l c m t n e =
+    sym (counted_twice n e.references (event_part l (with_file c e.file) m t (by_privilege (privileged c) e.event)))
 
 -- an instruction that stores nothing ends with the error interrupt or well
 completed_part : (l : ℕ) (c : Core) (m t : List ℕ) (d : Completed)
     → ended_part l c (ending_of d) m t ≡ finished c m t [] d
 unfolding event_part by_privilege finished
 completed_part l c m t d =
-    counted_none (event_part l (with_file c d.file) m t (by_privilege (privileged c) (cond d.error Error Fine)))
+    counted_none (event_part l (with_file c d.file) m t (by_privilege (privileged c) (cond d.error (Some Error) None)))
     ∙ go d.error
   where
-    go : (b : Bool) → event_part l (with_file c d.file) m t (by_privilege (privileged c) (cond b Error Fine))
+    go : (b : Bool) → event_part l (with_file c d.file) m t (by_privilege (privileged c) (cond b (Some Error) None))
         ≡ finished c m t [] (record { file = d.file; stores = d.stores; error = b })
     go true = refl
     go false = refl
@@ -330,24 +328,25 @@ register_served f m t a r u z h i j q l c s =
     ∙ registers_alone c m t u h i j
 
 -- a memory operation at its effective address, or where the access for the indirect word failed
-module _ (f : File) (m t : List ℕ) (a : ℕ) (r : Rights) (o : MemoryOp) (md : Mode) (d : ℤ) (e : Effective) (v : List ℕ)
-    (h : Addressed f a r md d m t e v) (z : Ending) where
-  pub memory_at : (b : Bool) (x n : ℕ) (w : Ending) (m' t' : List ℕ) {q : Request} → e ≡ At b x n → q ≡ request_of o f
-      → Served f q (record { rights = r; alternate = b; address = x }) m v w m' t'
-      → z ≡ counted_ending n (n + access_count q) w → UserStage f a r (Memory o md d) m t z m' t'
+module _ (f : File) (m t : List ℕ) (a : ℕ) (r : Rights) (o : MemoryOp) (md : Mode) (d : ℤ) (x : Result Effective Fault)
+    (v : List ℕ) (h : Addressed f a r md d m t x v) (z : Ending) where
+  pub memory_at : (e : Effective) (w : Ending) (m' t' : List ℕ) {q : Request} → x ≡ Ok e → q ≡ request_of o f
+      → Served f q (record { rights = r; alternate = e.alternate; address = e.address }) m v w m' t'
+      → z ≡ after_references e.read w → UserStage f a r (Memory o md d) m t z m' t'
   unfolding addressed
-  memory_at b x n w m' t' {q} i p k j l c s =
+  memory_at e w m' t' {q} i p k j l c s =
       ap (λ (y : Ending). ended_part l c y m' t') j
-      ∙ counted_ending_law l c m' t' n (access_count q) w
-      ∙ ap (counted n) (k.part l c s.executing)
-      ∙ ap (λ (q : Request). counted n (requested c m v q b x)) (p ∙ ap (request_of o) (sym s.executing.file))
+      ∙ after_references_law l c m' t' e.read w
+      ∙ ap (counted e.read) (k.part l c s.executing)
+      ∙ ap (λ (q : Request). counted e.read (requested c m v q e.alternate e.address))
+      (p ∙ ap (request_of o) (sym s.executing.file))
       ∙ ap (addressed c m v o) (sym i)
       ∙ h.1 c o s
 
-  pub memory_failed : (x : Translation) → e ≡ Failed x → z ≡ record { references = 1; event = Faulted x; file = f }
+  pub memory_failed : (y : Fault) → x ≡ Err y → z ≡ record { references = 1; event = Some (Faulted y); file = f }
       → UserStage f a r (Memory o md d) m t z m v
   unfolding addressed event_part by_privilege
-  memory_failed x q n l c s = file_left l m v s.executing n ∙ ap (addressed c m v o) (sym q) ∙ h.1 c o s
+  memory_failed y q n l c s = file_left l m v s.executing n ∙ ap (addressed c m v o) (sym q) ∙ h.1 c o s
 
 -- ---- the fetch
 
@@ -358,16 +357,13 @@ pub record FoundBy (r : Rights) (e : Entry) (a p : ℕ) : Type 0 where
   pub allowed : e.ring ≤ r.ring
   pub place : p ≡ physical e a
 
--- .. if the place is one in memory to load from
-abbrev pub FetchBy : Rights → Entry → ℕ → Translation → Type 0
-FetchBy r e a NoAccess = Unit {0}
-FetchBy r e a (Load p) = FoundBy r e a p
-FetchBy r e a (Store p) = Unit {0}
-FetchBy r e a (LoadTable i) = Unit {0}
-FetchBy r e a (StoreTable i) = Unit {0}
-FetchBy r e a (Protection g) = Unit {0}
-FetchBy r e a (PageFault g) = Unit {0}
-FetchBy r e a OutOfRange = Unit {0}
+-- .. if the access passed to a place in memory to load from
+abbrev pub FetchBy : Rights → Entry → ℕ → Result Place Fault → Type 0
+FetchBy r e a (Ok (Load p)) = FoundBy r e a p
+FetchBy r e a (Ok (Store p)) = Unit {0}
+FetchBy r e a (Ok (LoadTable i)) = Unit {0}
+FetchBy r e a (Ok (StoreTable i)) = Unit {0}
+FetchBy r e a (Err f) = Unit {0}
 
 judged_found : (r : Rights) (e : Entry) (slot words a : ℕ) → in_window r a ≡ false
     → FetchBy r e a (judged e slot words r.ring Fetch a)
@@ -414,8 +410,8 @@ lowered_ring f p k ring h =
         ap (λ (y : ℕ). level_core f y k) e
 
 -- what the code makes of the ring is what the definition makes of the PCR
-pub ring_is : (f : File) (p : ℕ) (k : Control) (t : List ℕ) (words a : ℕ) {r : Rights} {x : Translation} {ring : ℕ}
-    → level_rights p k.paging k.extended ≡ r → x ≡ translate t words r (access Fetch false a)
+pub ring_is : (f : File) (p : ℕ) (k : Control) (t : List ℕ) (words a : ℕ) {r : Rights} {x : Place} {ring : ℕ}
+    → level_rights p k.paging k.extended ≡ r → Ok x ≡ translate t words r (access Fetch false a)
     → ring ≡ (entry_at r.extended t (slot_of r.normal a)).ring
     → after_fetch (level_core f p k) ring x ≡ level_core f (lowered_pcr p (ring_after r ring x)) k
 ring_is f p k t words a {r} {x} {ring} e q h =
@@ -429,7 +425,8 @@ ring_is f p k t words a {r} {x} {ring} e q h =
     below z i n =
         let entry : Entry = entry_at r.extended t (slot_of r.normal a) in
         let on : r.paging ≡ true = ap (λ (y : Rights). y.paging) (sym e) ∙ z in
-        let by : FoundBy r entry a i = subst (FetchBy r entry a) (sym q ∙ n) (fetch_found t words r a on) in
+        let by : FoundBy r entry a i =
+        subst (FetchBy r entry a) (sym q ∙ ap passed n) (fetch_found t words r a on) in
         rw h (subst (λ (y : Rights). entry.ring ≤ y.ring) (sym e) by.allowed)
 
     own : (b : Bool) → level_core f p k ≡ level_core f (lowered_pcr p (cond b (ring_of p) (ring_of p))) k
@@ -438,34 +435,26 @@ ring_is f p k t words a {r} {x} {ring} e q h =
         same : level_core f p k ≡ level_core f (lowered_pcr p (ring_of p)) k
         same = ap (λ (y : ℕ). level_core f y k) (sym (same_ring p))
 
-    go : (b : Bool) → eqb k.paging 1 ≡ b → (y : Translation)
+    go : (b : Bool) → eqb k.paging 1 ≡ b → (y : Place)
         → x ≡ y
         → after_fetch (level_core f p k) ring y
         ≡ level_core f (lowered_pcr p (ring_after (level_rights p k.paging k.extended) ring y)) k
-    go b z NoAccess n = own (eqb k.paging 1)
     go true z (Load i) n = rw z (lowered_ring f p k ring (below z i n))
     go false z (Load i) n = rw z (own false)
     go b z (Store i) n = own (eqb k.paging 1)
     go b z (LoadTable i) n = own (eqb k.paging 1)
     go b z (StoreTable i) n = own (eqb k.paging 1)
-    go b z (Protection i) n = own (eqb k.paging 1)
-    go b z (PageFault i) n = own (eqb k.paging 1)
-    go b z OutOfRange n = own (eqb k.paging 1)
 
 -- two bits hold the ring after a fetch
-pub ring_small : (t : List ℕ) (a : ℕ) (r : Rights) (x : Translation) {ring : ℕ} → r.ring < 4
+pub ring_small : (t : List ℕ) (a : ℕ) (r : Rights) (x : Place) {ring : ℕ} → r.ring < 4
     → ring ≡ (entry_at r.extended t (slot_of r.normal a)).ring → ring_after r ring x < 4
 ring_small t a r x {ring} h e = either (λ (n : ℕ). n < 4) r.paging (go x) h
   where
     entry : ring < 4
     entry = rw e (omega arith)
 
-    go : (y : Translation) → ring_from r.ring ring y < 4
-    go NoAccess = h
+    go : (y : Place) → ring_from r.ring ring y < 4
     go (Load i) = entry
     go (Store i) = h
     go (LoadTable i) = h
     go (StoreTable i) = h
-    go (Protection i) = h
-    go (PageFault i) = h
-    go OutOfRange = h

@@ -1,15 +1,17 @@
 -- The stages of an unprivileged instruction by what the code has in hand: the registers with P one further, the rights,
 -- and the instruction's own address.
 use Rattle.std.specs.Prelude.{ℕ, ◌≤◌, ◌≡◌, true, cond, List, [], ◌∷◌, get_or, length, ℤ}
+use Rattle.std.specs.declared.result.Result.{Result}
+use Rattle.std.specs.declared.result.Result.TheVariants.{Ok, Err}
 use Rattle.isa.specs.Machine.{reg, next, next_core}
 use Rattle.isa.specs.Address.{access, first_rule, address_rule, byte_address}
-use Rattle.isa.specs.Pages.{Tested, test_all, passes, words_at, rights_of}
+use Rattle.isa.specs.Pages.{Tested, test_all, after_test, words_at, rights_of}
 use Rattle.isa.specs.Step.{Part, counted, failed, user_stage}
 use Rattle.isa.specs.declared.access.AccessKind.TheVariants.{Indirect}
 use Rattle.isa.specs.declared.access.Rights.{Rights}
-use Rattle.isa.specs.declared.access.Translation.{Translation}
-use Rattle.isa.specs.declared.access.Translation.TheVariants.{NoAccess, Load, Store, LoadTable, StoreTable}
-use Rattle.isa.specs.declared.access.Translation.TheVariants.{Protection, PageFault, OutOfRange}
+use Rattle.isa.specs.declared.access.Place.{Place}
+use Rattle.isa.specs.declared.access.Place.TheVariants.{Load, Store, LoadTable, StoreTable}
+use Rattle.isa.specs.declared.access.Fault.{Fault}
 use Rattle.isa.specs.declared.instruction.MemoryOp.{MemoryOp}
 use Rattle.isa.specs.declared.instruction.Mode.{Mode}
 use Rattle.isa.specs.declared.instruction.User.{User}
@@ -25,7 +27,6 @@ use Rattle.event.specs.Events.{ended_part}
 use Rattle.event.specs.declared.Ending.{Ending}
 use Rattle.exec_memory.specs.Served.{Executing, requested}
 use Rattle.exec_memory.specs.declared.address.Effective.{Effective}
-use Rattle.exec_memory.specs.declared.address.Effective.TheVariants.{At, Failed}
 
 -- c executes an instruction at the address a
 pub record ExecutingAt (c : Core) (f : File) (a : ℕ) (r : Rights) : Type 0 where
@@ -35,17 +36,17 @@ pub record ExecutingAt (c : Core) (f : File) (a : ℕ) (r : Rights) : Type 0 whe
 -- ---- up to the effective address
 
 -- an operation goes on at its effective address, or the access for the indirect word failed
-unfoldable pub addressed : Core → List ℕ → List ℕ → MemoryOp → Effective → Part
-addressed c m t o (At alternate a n) = counted n (requested c m t (request_of o (next c.file)) alternate a)
-addressed c m t o (Failed x) = counted 1 (failed (next_core c) x m t)
+unfoldable pub addressed : Core → List ℕ → List ℕ → MemoryOp → Result Effective Fault → Part
+addressed c m t o (Ok e) = counted e.read (requested c m t (request_of o (next c.file)) e.alternate e.address)
+addressed c m t o (Err x) = counted 1 (failed (next_core c) x m t)
 
 -- "Finding an effective address shall also tell how many words it read (0 or 1)"; a failed access is for one
-abbrev pub words_read : Effective → ℕ
-words_read (At alternate a n) = n
-words_read (Failed x) = 1
+abbrev pub words_read : Result Effective Fault → ℕ
+words_read (Ok e) = e.read
+words_read (Err x) = 1
 
 -- as the stage up to it answers, in every core that executes it
-abbrev pub Addressed : File → ℕ → Rights → Mode → ℤ → List ℕ → List ℕ → Effective → List ℕ → Type 0
+abbrev pub Addressed : File → ℕ → Rights → Mode → ℤ → List ℕ → List ℕ → Result Effective Fault → List ℕ → Type 0
 Addressed f at r md d m t e t' =
     (words_read e ≤ 1)
     × ((c : Core) (o : MemoryOp) → ExecutingAt c f at r → addressed c m t' o e ≡ user_stage c m t (Memory o md d))
@@ -55,11 +56,11 @@ unfoldable pub after_indirect_word : Core → List ℕ → MemoryOp → Mode →
 after_indirect_word c m o md r =
     let a = after_indirect md (next c.file) (get_or (words_at m r.tables r.places) 0 0) in
     counted r.made
-    (cond (passes r.fault) (requested c m r.tables (request_of o (next c.file)) (address_rule md) a)
-    (failed (next_core c) r.fault m r.tables))
+    (after_test r.fault (requested c m r.tables (request_of o (next c.file)) (address_rule md) a)
+    (λ x. failed (next_core c) x m r.tables))
 
 -- .. and where the mode has an indirect word, at the address a
-abbrev pub ByIndirect : File → Rights → Mode → ℕ → List ℕ → List ℕ → Effective → List ℕ → Type 0
+abbrev pub ByIndirect : File → Rights → Mode → ℕ → List ℕ → List ℕ → Result Effective Fault → List ℕ → Type 0
 ByIndirect f r md a m t e t' =
     (words_read e ≤ 1)
     × ((c : Core) (o : MemoryOp) → Executing c f r
@@ -83,15 +84,11 @@ abbrev pub level_core : File → ℕ → Control → Core
 level_core f p k = record { file = f; pcr = p; control = k }
 
 -- the ring after a passed fetch to the place x by way of an entry of a ring that is not above the old one
-abbrev pub ring_from : ℕ → ℕ → Translation → ℕ
-ring_from old ring NoAccess = old
+abbrev pub ring_from : ℕ → ℕ → Place → ℕ
 ring_from old ring (Load p) = ring
 ring_from old ring (Store p) = old
 ring_from old ring (LoadTable i) = old
 ring_from old ring (StoreTable i) = old
-ring_from old ring (Protection g) = old
-ring_from old ring (PageFault g) = old
-ring_from old ring OutOfRange = old
 
-abbrev pub ring_after : Rights → ℕ → Translation → ℕ
+abbrev pub ring_after : Rights → ℕ → Place → ℕ
 ring_after r ring x = cond r.paging (ring_from r.ring ring x) r.ring

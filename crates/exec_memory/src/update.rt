@@ -1,99 +1,63 @@
 // MIN and SBYT: a word is read, and another written in its place.
-ghost use Rattle.isa.specs.Machine.{table_words};
-ghost use Rattle.std.specs.Prelude.{◌≡◌, ◌<◌, length};
+ghost use Rattle.std.specs.Prelude.{◌<◌};
 ghost use Rattle.exec_address.specs.declared.request.Request.TheVariants.{Update};
 ghost use Rattle.exec_address.specs.declared.request.Change.TheVariants.{PutByte};
 ghost use Rattle.exec_memory.specs.Served.{Served, after_exchange};
 
-use event::{Ending, failed, fine};
+use event::{Ending, done, failed};
 use exec_address::change::{after_change, changed};
 use exec_address::request::Change;
-use isa::access::{AccessKind, Translation};
-use isa::machine::File;
+use isa::access::AccessKind;
+use isa::machine::{File, PageTables};
 use memory_words::location::Location;
-use paging::place::{fault_of, store_at, word_at};
-use paging::translation::translate;
+use memory_words::test::test_word;
+use paging::failure::{Failure, nth};
+use paging::place::{store_at, word_at};
 
-// The word that was read, or the first access that failed; and how many accesses were made.
-#[derive(Clone, Copy)]
-pub struct Exchanged {
-    pub word: u16,
-    pub fault: Translation,
-    pub made: u32,
-}
-
-// Both accesses are tested, and the changed word is stored.
-fn exchange(f: File, mem: &mut [u16], tables: &mut [u16], x: Location, k: Change) -> Exchanged
+// Both accesses are tested, and the changed word is stored: the word that was read.
+fn exchange(
+    f: File,
+    mem: &mut [u16],
+    tables: &mut PageTables,
+    x: Location,
+    k: Change,
+) -> Result<u16, Failure>
     requires normal_bound { (x.rights.normal < 4) × (x.rights.alternate < 4) }
-    requires tables_len { length tables.old ≡ table_words }
     ensures { Served f (Update k) x mem.old tables.old (after_exchange f k result)
         mem.new tables.new }
 {
-    let r = x.rights;
-    let from = translate(
-        tables,
-        mem.len(),
-        r,
-        AccessKind::Read,
-        x.alternate,
-        x.address,
-    );
-    if fault_of(from) != 0 {
-        return Exchanged {
-            word: 0,
-            fault: from,
-            made: 1,
-        };
-    }
-    let to = translate(
-        tables,
-        mem.len(),
-        r,
-        AccessKind::Write,
-        x.alternate,
-        x.address,
-    );
-    if fault_of(to) != 0 {
-        return Exchanged {
-            word: 0,
-            fault: to,
-            made: 2,
-        };
-    }
+    let from = nth(test_word(tables, mem.len(), x, AccessKind::Read), 1)?;
+    let to = nth(test_word(tables, mem.len(), x, AccessKind::Write), 2)?;
     let w = word_at(mem, tables, from);
     store_at(mem, tables, to, changed(k, f, w));
-    Exchanged {
-        word: w,
-        fault: Translation::NoAccess,
-        made: 2,
-    }
+    Ok(w)
 }
 
-pub(crate) fn update(f: File, mem: &mut [u16], tables: &mut [u16], x: Location, k: Change) -> Ending
+pub(crate) fn update(
+    f: File,
+    mem: &mut [u16],
+    tables: &mut PageTables,
+    x: Location,
+    k: Change,
+) -> Ending
     requires normal_bound { (x.rights.normal < 4) × (x.rights.alternate < 4) }
-    requires tables_len { length tables.old ≡ table_words }
     ensures { Served f (Update k) x mem.old tables.old result mem.new
         tables.new }
 {
-    let e = exchange(f, mem, tables, x, k);
-    let a = e.fault;
-    if fault_of(a) != 0 {
-        return failed(f, a, e.made);
+    match exchange(f, mem, tables, x, k) {
+        Ok(w) => done(after_change(k, f, w), 2),
+        Err(e) => failed(f, e.fault, e.made),
     }
-    fine(after_change(k, f, e.word))
 }
 
-// SBYT, which is not served as MIN is: a function with one caller is compiled into it.
-pub fn put_byte(f: File, mem: &mut [u16], tables: &mut [u16], x: Location) -> Ending
+// SBYT, which is not served as MIN is: as one function the run's loop takes 80 machine instructions a step more.
+pub fn put_byte(f: File, mem: &mut [u16], tables: &mut PageTables, x: Location) -> Ending
     requires normal_bound { (x.rights.normal < 4) × (x.rights.alternate < 4) }
-    requires tables_len { length tables.old ≡ table_words }
     ensures { Served f (Update PutByte) x mem.old tables.old result mem.new
         tables.new }
 {
-    let e = exchange(f, mem, tables, x, Change::PutByte);
-    let a = e.fault;
-    if fault_of(a) != 0 {
-        return failed(f, a, e.made);
+    match exchange(f, mem, tables, x, Change::PutByte) {
+        Ok(_) => done(f, 2),
+        Err(e) => failed(f, e.fault, e.made),
     }
-    fine(f)
 }

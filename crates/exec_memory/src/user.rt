@@ -1,23 +1,22 @@
 // An unprivileged instruction.
-ghost use Rattle.isa.specs.Machine.{table_words};
-ghost use Rattle.std.specs.Prelude.{◌≡◌, ◌<◌, length};
+ghost use Rattle.std.specs.Prelude.{◌≡◌, ◌<◌};
 ghost use Rattle.isa.specs.declared.instruction.User.TheVariants.{Memory};
 ghost use Rattle.isa.specs.Machine.{reg};
 ghost use Rattle.isa.specs.declared.machine.Register.TheVariants.{Sts};
 ghost use Rattle.paging.specs.Levels.{by_flags};
 ghost use Rattle.exec_memory.specs.Stages.{UserStage, byte_location};
 
-use crate::address::{Effective, address_of};
-use crate::request::{accesses_in, serve};
+use crate::address::address_of;
+use crate::request::serve;
 use crate::single::read_word;
 use crate::update::put_byte;
-use event::{Ending, counted, failed};
+use event::{Ending, after, failed};
 use exec_address::byte::byte_address;
 use exec_address::request::{Reading, request_of};
 use exec_register::complete::complete;
 use isa::access::Rights;
 use isa::instruction::{MemoryOp, Mode, User};
-use isa::machine::{File, Register};
+use isa::machine::{File, PageTables, Register};
 use memory_words::location::Location;
 use paging::rights::by_flags;
 
@@ -26,29 +25,25 @@ fn memory_stage(
     at: u16,
     r: Rights,
     mem: &mut [u16],
-    tables: &mut [u16],
+    tables: &mut PageTables,
     o: MemoryOp,
     m: Mode,
     d: i16,
 ) -> Ending
     requires normal_bound { (r.normal < 4) × (r.alternate < 4) }
-    requires tables_len { length tables.old ≡ table_words }
     ensures { UserStage f at r (Memory o m d) mem.old tables.old result mem.new
         tables.new }
 {
-    let e = address_of(f, at, r, mem, tables, m, d);
-    match e {
-        Effective::At(alternate, a, read) => {
+    match address_of(f, at, r, mem, tables, m, d) {
+        Ok(e) => {
             let x = Location {
                 rights: r,
-                alternate: alternate,
-                address: a,
+                alternate: e.alternate,
+                address: e.address,
             };
-            let q = request_of(o, f);
-            let all = read + accesses_in(q);
-            counted(serve(f, mem, tables, x, q), read, all)
+            after(e.read, serve(f, mem, tables, x, request_of(o, f)))
         }
-        Effective::Failed(x) => failed(f, x, 1),
+        Err(x) => failed(f, x, 1),
     }
 }
 
@@ -70,11 +65,10 @@ pub fn user_stage(
     at: u16,
     r: Rights,
     mem: &mut [u16],
-    tables: &mut [u16],
+    tables: &mut PageTables,
     u: User,
 ) -> Ending
     requires normal_bound { (r.normal < 4) × (r.alternate < 4) }
-    requires tables_len { length tables.old ≡ table_words }
     ensures { UserStage f at (by_flags r (reg f Sts)) u mem.old tables.old result
         mem.new tables.new }
 {
@@ -92,14 +86,10 @@ pub fn user_stage(
         );
     }
     if let User::StoreByte = u {
-        return counted(put_byte(f, mem, tables, byte_location(f, r)), 0, 2);
+        return put_byte(f, mem, tables, byte_location(f, r));
     }
     if let User::LoadByte = u {
-        return counted(
-            read_word(f, mem, tables, byte_location(f, r), Reading::Byte),
-            0,
-            1,
-        );
+        return read_word(f, mem, tables, byte_location(f, r), Reading::Byte);
     }
     complete(u, f, at)
 }

@@ -1,31 +1,17 @@
 // LDATX to STDTX: one word or two of memory or page tables, by the physical address in T and X.
 #![tactic(auto)]
 
-ghost use Rattle.isa.specs.Machine.{table_words};
-ghost use Rattle.std.specs.Prelude.{◌≡◌, ◌<◌, [], ◌∷◌, length, if◌then◌else◌};
-ghost use Rattle.isa.specs.Pages.{word_at, words_of, store_all, lent};
+ghost use Rattle.std.specs.Prelude.{◌≡◌, ◌<◌, if◌then◌else◌};
 ghost use Rattle.isa.specs.Physical.{transfer_address, transfer_kind, two_words, transfer_stores, transferred};
-ghost use Rattle.isa.specs.Physical.{second_place};
-ghost use Rattle.paging.specs.Within.{Within};
-ghost use Rattle.exec_physical.specs.Transfers.{address_range, Transferred as TransferredBy};
+ghost use Rattle.exec_physical.specs.Transfers.{address_range, Transferred};
 
-use isa::access::{AccessKind, Translation, Triple};
+use isa::access::{AccessKind, Triple};
 use isa::constant::WORD_RANGE;
 use isa::instruction::Transfer;
-use isa::machine::{File, Register};
-use memory_words::outcome::Places;
-use memory_words::words::store_all;
+use isa::machine::{File, PageTables, Register};
+use paging::failure::{Failure, nth};
 use paging::physical::physical_place;
-use paging::place::{fault_of, word_at};
-
-// The level's registers after the instruction; the place that failed, or one that passed; and how many accesses were
-// made.
-#[derive(Clone, Copy)]
-pub struct Transferred {
-    pub file: File,
-    pub fault: Translation,
-    pub made: u32,
-}
+use paging::place::{store_at, word_at};
 
 // What a word is below, as a size.
 const RANGE: usize = WORD_RANGE as usize;
@@ -43,13 +29,8 @@ fn kind_of(o: Transfer) -> AccessKind
     ensures { result ≡ transfer_kind o }
 {
     match o {
-        Transfer::Ldatx => AccessKind::Read,
-        Transfer::Ldxtx => AccessKind::Read,
-        Transfer::Lddtx => AccessKind::Read,
-        Transfer::Ldbtx => AccessKind::Read,
-        Transfer::Statx => AccessKind::Write,
-        Transfer::Stztx => AccessKind::Write,
-        Transfer::Stdtx => AccessKind::Write,
+        Transfer::Ldatx | Transfer::Ldxtx | Transfer::Lddtx | Transfer::Ldbtx => AccessKind::Read,
+        Transfer::Statx | Transfer::Stztx | Transfer::Stdtx => AccessKind::Write,
     }
 }
 
@@ -57,37 +38,14 @@ fn kind_of(o: Transfer) -> AccessKind
 fn two_words(o: Transfer) -> bool
     ensures { result ≡ two_words o }
 {
-    match o {
-        Transfer::Ldatx => false,
-        Transfer::Ldxtx => false,
-        Transfer::Lddtx => true,
-        Transfer::Ldbtx => false,
-        Transfer::Statx => false,
-        Transfer::Stztx => false,
-        Transfer::Stdtx => true,
-    }
+    matches!(o, Transfer::Lddtx | Transfer::Stdtx)
 }
 
 // How many words the instruction has.
-fn words_of(o: Transfer) -> u32
+pub fn words_of(o: Transfer) -> u32
     ensures { result ≡ (if two_words o then 2 else 1) }
 {
-    if two_words(o) {
-        return 2;
-    }
-    1
-}
-
-// Where the next word is, if the instruction has two.
-fn second_place(extended: bool, words: usize, o: Transfer, p: usize) -> Translation
-    requires { p < address_range }
-    ensures value { result ≡ second_place extended words o p }
-    ensures within { Within words result }
-{
-    if two_words(o) {
-        return physical_place(extended, words, kind_of(o), p + 1);
-    }
-    Translation::NoAccess
+    if two_words(o) { 2 } else { 1 }
 }
 
 fn triple(w: u16, v: u16) -> Triple
@@ -101,13 +59,10 @@ fn stores(o: Transfer, f: File) -> Triple
     ensures { result ≡ transfer_stores o f }
 {
     match o {
-        Transfer::Ldatx => triple(0, 0),
-        Transfer::Ldxtx => triple(0, 0),
-        Transfer::Lddtx => triple(0, 0),
-        Transfer::Ldbtx => triple(0, 0),
         Transfer::Statx => triple(f.get(Register::A), 0),
-        Transfer::Stztx => triple(0, 0),
         Transfer::Stdtx => triple(f.get(Register::A), f.get(Register::D)),
+        Transfer::Ldatx | Transfer::Ldxtx | Transfer::Lddtx | Transfer::Ldbtx | Transfer::Stztx =>
+            triple(0, 0),
     }
 }
 
@@ -119,68 +74,34 @@ fn loaded(o: Transfer, f: File, w: u16, v: u16) -> File
         Transfer::Ldatx => f.with(Register::A, w),
         Transfer::Ldxtx => f.with(Register::X, w),
         Transfer::Lddtx => f.with(Register::A, w).with(Register::D, v),
-        Transfer::Ldbtx => f.with(Register::B, 0o177000 | std::num::wrapping_add_u16(w, w)),
-        Transfer::Statx => f,
-        Transfer::Stztx => f,
-        Transfer::Stdtx => f,
+        Transfer::Ldbtx => f.with(Register::B, 0o177000 | w.wrapping_add(w)),
+        Transfer::Statx | Transfer::Stztx | Transfer::Stdtx => f,
     }
 }
 
-// Both places have passed: the words are read or stored.
-fn moved(
-    f: File,
-    mem: &mut [u16],
-    tables: &mut [u16],
-    o: Transfer,
-    x: Translation,
-    y: Translation,
-) -> File
-    requires within { Within (length mem.old) x × Within (length mem.old) y }
-    requires tables_len { length tables.old ≡ table_words }
-    ensures value { result ≡ transferred o f (word_at mem.old tables.old x)
-        (word_at mem.old tables.old y) }
-    ensures tables_after { lent mem.new tables.new
-        ≡ store_all mem.old tables.old (x ∷ y ∷ []) (words_of (transfer_stores o f)) }
-{
-    let g = loaded(o, f, word_at(mem, tables, x), word_at(mem, tables, y));
-    store_all(mem, tables, Places::Two(x, y), stores(o, f));
-    g
-}
-
-// Both places are tested before a load or a store takes effect.
+// The level's registers after the instruction, or the access that failed: all are tested before a load or a store takes
+// effect.
 pub fn transfer(
     f: File,
     extended: bool,
     mem: &mut [u16],
-    tables: &mut [u16],
+    tables: &mut PageTables,
     o: Transfer,
     d: u16,
-) -> Transferred
-    requires { length tables.old ≡ table_words }
-    ensures { TransferredBy f extended o d mem.old tables.old result mem.new
-        tables.new }
+) -> Result<File, Failure>
+    ensures { Transferred f extended o d mem.old tables.old result mem.new tables.new }
 {
     let p = address(f, d);
-    let x = physical_place(extended, mem.len(), kind_of(o), p);
-    let y = second_place(extended, mem.len(), o, p);
-    if fault_of(x) != 0 {
-        return Transferred {
-            file: f,
-            fault: x,
-            made: 1,
-        };
+    let w = stores(o, f);
+    let x = nth(physical_place(extended, mem.len(), kind_of(o), p), 1)?;
+    if !two_words(o) {
+        let g = loaded(o, f, word_at(mem, tables, x), 0);
+        store_at(mem, tables, x, w.a);
+        return Ok(g);
     }
-    if fault_of(y) != 0 {
-        return Transferred {
-            file: f,
-            fault: y,
-            made: 2,
-        };
-    }
-    let g = moved(f, mem, tables, o, x, y);
-    Transferred {
-        file: g,
-        fault: y,
-        made: words_of(o),
-    }
+    let y = nth(physical_place(extended, mem.len(), kind_of(o), p + 1), 2)?;
+    let g = loaded(o, f, word_at(mem, tables, x), word_at(mem, tables, y));
+    store_at(mem, tables, x, w.a);
+    store_at(mem, tables, y, w.b);
+    Ok(g)
 }

@@ -1,6 +1,6 @@
 -- The register instructions as the machine's own definition has them.
 -- Assumes nothing.
-use Rattle.std.proofs.Common.{◌≡◌, ℕ, Bool, true, false, cond, List, refl, arith}
+use Rattle.std.proofs.Common.{◌≡◌, ℕ, Bool, true, false, cond, Option, Some, None, List, refl, arith}
 use lib.Dec as Dec
 use Rattle.isa.specs.Machine.{reg, with_reg, next}
 use Rattle.isa.specs.Flags.{division_fails}
@@ -15,36 +15,32 @@ use Rattle.isa.specs.declared.instruction.User.TheVariants.{Shift, SetArgument, 
 use Rattle.isa.specs.declared.instruction.User.TheVariants.{StoreByte, Mix3, Multiply, Divide}
 use Rattle.arithmetic.specs.Results.{division_of}
 use Rattle.arithmetic.specs.declared.quotient.Division.{Division}
-use Rattle.arithmetic.specs.declared.quotient.Division.TheVariants.{Fails, Gives}
 use Rattle.exec_register.specs.Completion.{in_registers, register_completion, failing}
 
 -- ---- RDIV
 
-pub division_fails_law : (f : File) (d : ℕ) → division_of (double_of f) d ≡ Fails → divided f d ≡ failing f
+pub division_fails_law : (f : File) (d : ℕ) → division_of (double_of f) d ≡ None → divided f d ≡ failing f
 unfolding divided division_of
-division_fails_law f d = go _ _ _ (division_fails (double_of f) d)
+division_fails_law f d = go _ _ (division_fails (double_of f) d)
   where
-    go :
-        (q r : ℕ) (x : Completed) (b : Bool)
-        → cond {A = Division} b Fails (Gives q r) ≡ Fails → cond b (failing f) x ≡ failing f
-    go q r x true h = refl
-    go q r x false h = absurd (let z : ◌≡◌ {A = ℕ} 0 1 = cc in omega arith)
+    go : (q : Division) (x : Completed) (b : Bool)
+        → cond {A = Option Division} b None (Some q) ≡ None → cond b (failing f) x ≡ failing f
+    go q x true h = refl
+    go q x false h = absurd (let z : ◌≡◌ {A = ℕ} 0 1 = cc in omega arith)
 
 pub division_gives :
-    (f : File) (d a r : ℕ) → division_of (double_of f) d ≡ Gives a r
-    → divided f d ≡ loads (with_reg (with_reg f A a) D r)
+    (f : File) (d : ℕ) (q : Division) → division_of (double_of f) d ≡ Some q
+    → divided f d ≡ loads (with_reg (with_reg f A q.quotient) D q.remainder)
 unfolding divided division_of
-division_gives f d a r = go _ _ (division_fails (double_of f) d)
+division_gives f d q = go _ (division_fails (double_of f) d)
   where
     go :
-        (p q : ℕ) (b : Bool)
-        → cond {A = Division} b Fails (Gives p q) ≡ Gives a r
-        → cond b (failing f) (loads (with_reg (with_reg f A p) D q)) ≡ loads (with_reg (with_reg f A a) D r)
-    go p q true h = absurd (let z : ◌≡◌ {A = ℕ} 0 1 = cc in omega arith)
-    go p q false h =
-        let x : p ≡ a = cc in
-        let y : q ≡ r = cc in
-        simp (x, y)
+        (p : Division) (b : Bool)
+        → cond {A = Option Division} b None (Some p) ≡ Some q
+        → cond b (failing f) (loads (with_reg (with_reg f A p.quotient) D p.remainder))
+        ≡ loads (with_reg (with_reg f A q.quotient) D q.remainder)
+    go p true h = absurd (let z : ◌≡◌ {A = ℕ} 0 1 = cc in omega arith)
+    go p false h = let e : p ≡ q = cc in simp e
 
 -- ---- the machine's definition
 

@@ -1,10 +1,10 @@
 // Bit instructions.
-ghost use Rattle.std.specs.Prelude.{◌≡◌, ◌<◌, min, max, ◌&&◌, nat_le};
-ghost use Rattle.isa.specs.Machine.{with_flag, flag_k};
+ghost use Rattle.std.specs.Prelude.{◌≡◌, ◌<◌, ◌&&◌, nat_le};
+ghost use Rattle.isa.specs.Machine.{with_flag, flag_k, flag_of};
 ghost use Rattle.isa.specs.Instructions.{is_zero, put_bit, bit_completion, bit_done};
 
-use crate::operand;
 use crate::skip::skip_if;
+use arithmetic::bits::{bit, with_bit};
 use isa::constant::FLAG_K;
 use isa::instruction::BitOp;
 use isa::machine::{File, Register};
@@ -13,80 +13,56 @@ use isa::machine::{File, Register};
 fn is_fixed(r: Register, n: u16) -> bool
     ensures { result ≡ (is_zero r && nat_le 8 n) }
 {
-    if operand::is_zero(r) {
-        return 8 <= n;
-    }
-    false
+    r == Register::Sts && 8 <= n
 }
 
-fn put_bit(f: File, r: Register, n: u16, v: u16) -> File
-    requires { (n < 16) × (v < 2) }
-    ensures { result ≡ put_bit f r n v }
+fn put_bit(f: File, r: Register, n: u16, v: bool) -> File
+    requires { n < 16 }
+    ensures { result ≡ put_bit f r n (flag_of v) }
 {
     if is_fixed(r, n) {
-        return f;
+        f
+    } else {
+        f.with(r, with_bit(n, v, f.get(r)))
     }
-    f.with(r, arithmetic::bits::with_bit(n, v, f.get(r)))
 }
 
-fn put_k(f: File, k: u16) -> File
-    requires { k < 2 }
-    ensures { result ≡ with_flag flag_k k f }
+fn put_k(f: File, k: bool) -> File
+    ensures { result ≡ with_flag flag_k (flag_of k) f }
 {
-    f.with(
-        Register::Sts,
-        arithmetic::bits::with_bit(FLAG_K, k, f.get(Register::Sts)),
-    )
+    f.with(Register::Sts, with_bit(FLAG_K, k, f.get(Register::Sts)))
 }
 
 // The bit takes v, then K takes k.
-fn put_both(f: File, r: Register, n: u16, v: u16, k: u16) -> File
-    requires { (n < 16) × ((v < 2) × (k < 2)) }
-    ensures { result ≡ with_flag flag_k k (put_bit f r n v) }
+fn put_both(f: File, r: Register, n: u16, v: bool, k: bool) -> File
+    requires { n < 16 }
+    ensures { result ≡ with_flag flag_k (flag_of k) (put_bit f r n (flag_of v)) }
 {
     put_k(put_bit(f, r, n, v), k)
 }
 
-fn both(x: u16, y: u16) -> u16
-    ensures { result ≡ min x y }
-{
-    if x <= y {
-        return x;
-    }
-    y
-}
-
-fn either(x: u16, y: u16) -> u16
-    ensures { result ≡ max x y }
-{
-    if x <= y {
-        return y;
-    }
-    x
-}
-
 // b is the bit, k the flag K.
-fn bit_completion(o: BitOp, f: File, r: Register, n: u16, b: u16, k: u16) -> File
-    requires { (n < 16) × ((b < 2) × (k < 2)) }
-    ensures { result ≡ bit_completion o f r n b k }
+fn bit_completion(o: BitOp, f: File, r: Register, n: u16, b: bool, k: bool) -> File
+    requires { n < 16 }
+    ensures { result ≡ bit_completion o f r n (flag_of b) (flag_of k) }
 {
     match o {
-        BitOp::SetZero => put_bit(f, r, n, 0),
-        BitOp::SetOne => put_bit(f, r, n, 1),
-        BitOp::SetComplement => put_bit(f, r, n, 1 - b),
+        BitOp::SetZero => put_bit(f, r, n, false),
+        BitOp::SetOne => put_bit(f, r, n, true),
+        BitOp::SetComplement => put_bit(f, r, n, !b),
         BitOp::SetK => put_bit(f, r, n, k),
-        BitOp::SkipZero => skip_if(b == 0, f),
-        BitOp::SkipOne => skip_if(b == 1, f),
+        BitOp::SkipZero => skip_if(!b, f),
+        BitOp::SkipOne => skip_if(b, f),
         BitOp::SkipComplement => f,
         BitOp::SkipK => skip_if(b == k, f),
-        BitOp::Bstc => put_both(f, r, n, 1 - k, 1),
-        BitOp::Bsta => put_both(f, r, n, k, 0),
-        BitOp::Bldc => put_k(f, 1 - b),
+        BitOp::Bstc => put_both(f, r, n, !k, true),
+        BitOp::Bsta => put_both(f, r, n, k, false),
+        BitOp::Bldc => put_k(f, !b),
         BitOp::Blda => put_k(f, b),
-        BitOp::Banc => put_k(f, both(1 - b, k)),
-        BitOp::Band => put_k(f, both(b, k)),
-        BitOp::Borc => put_k(f, either(1 - b, k)),
-        BitOp::Bora => put_k(f, either(b, k)),
+        BitOp::Banc => put_k(f, !b && k),
+        BitOp::Band => put_k(f, b && k),
+        BitOp::Borc => put_k(f, !b || k),
+        BitOp::Bora => put_k(f, b || k),
     }
 }
 
@@ -95,13 +71,6 @@ pub fn bit_done(o: BitOp, f: File, n: u16, r: Register) -> File
     ensures { result ≡ bit_done o f n r }
 {
     let m = n % 16;
-    let b = arithmetic::bits::bit(m, f.get(r));
-    bit_completion(
-        o,
-        f,
-        r,
-        m,
-        b,
-        arithmetic::bits::bit(FLAG_K, f.get(Register::Sts)),
-    )
+    let k = bit(FLAG_K, f.get(Register::Sts));
+    bit_completion(o, f, r, m, bit(m, f.get(r)), k)
 }

@@ -6,8 +6,12 @@ ghost use Rattle.isa.specs.Instructions.{takes, argument_register, mixed, regist
 ghost use Rattle.event.specs.Events.{ending_of};
 ghost use Rattle.exec_register.specs.Completion.{failing};
 
-use crate::{operand, sum};
-use arithmetic::quotient::Division;
+use crate::operand::operand;
+use crate::sum::takes;
+use arithmetic::bits::with_bit;
+use arithmetic::product::multiply_double;
+use arithmetic::quotient::divide;
+use arithmetic::signed::word_of;
 use event::{Ending, Event, fine, with_event};
 use isa::constant::{ALL_ONES, FLAG_Z, WORD_RANGE};
 use isa::instruction::Argument;
@@ -28,7 +32,7 @@ fn argument_register(r: Argument) -> Register
 pub fn set_argument(f: File, r: Argument, n: i16) -> File
     ensures { result ≡ with_reg f (argument_register r) (bits_of 16 n) }
 {
-    f.with(argument_register(r), arithmetic::signed::word_of(n))
+    f.with(argument_register(r), word_of(n))
 }
 
 // AAx.
@@ -36,7 +40,7 @@ pub fn add_argument(f: File, r: Argument, n: i16) -> File
     ensures { result ≡ takes f (argument_register r) (adder (reg f (argument_register r)) (bits_of 16 n) 0) }
 {
     let t = argument_register(r);
-    sum::takes(f, t, f.get(t), arithmetic::signed::word_of(n), 0)
+    takes(f, t, f.get(t), word_of(n), false)
 }
 
 // The word -1.
@@ -54,12 +58,13 @@ pub fn mixed(f: File) -> File
 pub fn register_product(f: File, s: Register, d: Register) -> File
     ensures { result ≡ register_product f s d }
 {
-    if operand::is_zero(d) {
-        return f;
+    if d == Register::Sts {
+        f
+    } else {
+        let p = multiply_double(operand(f, s), operand(f, d));
+        f.with(Register::A, (p / WORD_RANGE) as u16)
+            .with(Register::D, (p % WORD_RANGE) as u16)
     }
-    let p = arithmetic::product::multiply_double(operand::operand(f, s), operand::operand(f, d));
-    f.with(Register::A, (p / WORD_RANGE) as u16)
-        .with(Register::D, (p % WORD_RANGE) as u16)
 }
 
 // A and D as one double word.
@@ -73,7 +78,7 @@ pub fn double(f: File) -> u32
 fn division_fails(f: File) -> Ending
     ensures { result ≡ ending_of (failing f) }
 {
-    let sts = arithmetic::bits::with_bit(FLAG_Z, 1, f.get(Register::Sts));
+    let sts = with_bit(FLAG_Z, true, f.get(Register::Sts));
     with_event(f.with(Register::Sts, sts), Event::Error)
 }
 
@@ -82,9 +87,11 @@ fn division_fails(f: File) -> Ending
 pub fn divided(f: File, d: u16) -> Ending
     ensures { result ≡ ending_of (divided f d) }
 {
-    let q = arithmetic::quotient::divide(double(f), d);
-    match q {
-        Division::Fails => division_fails(f),
-        Division::Gives(a, r) => fine(f.with(Register::A, a).with(Register::D, r)),
+    match divide(double(f), d) {
+        Some(q) => fine(
+            f.with(Register::A, q.quotient)
+                .with(Register::D, q.remainder),
+        ),
+        None => division_fails(f),
     }
 }

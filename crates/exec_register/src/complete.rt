@@ -4,6 +4,7 @@ ghost use Rattle.event.specs.Events.{ending_of};
 ghost use Rattle.exec_register.specs.Completion.{register_completion};
 
 use crate::{bit, calculation, jump, operand, shift};
+use arithmetic::signed::word_of;
 use event::{Ending, fine};
 use isa::instruction::User;
 use isa::machine::File;
@@ -15,13 +16,7 @@ pub fn complete(u: User, f: File, at: u16) -> Ending
 {
     match u {
         User::Memory(_, _, _) => fine(f),
-        User::Jump(o, d) => {
-            fine(jump::jumped(
-                o,
-                std::num::wrapping_add_u16(at, arithmetic::signed::word_of(d)),
-                f,
-            ))
-        }
+        User::Jump(o, d) => fine(jump::jumped(o, at.wrapping_add(word_of(d)), f)),
         User::Skip(r, s, d) => fine(operand::skipped(f, r, s, d)),
         User::Logic(o, cld, cm1, s, d) => {
             let x = operand::source_operand(f, cm1, s);

@@ -3,8 +3,10 @@ ghost use Rattle.std.specs.Prelude.{◌≡◌};
 ghost use Rattle.isa.specs.Instructions.{shift_in, shift_double, shifted};
 ghost use Rattle.exec_register.specs.Completion.{shift_register};
 
-use crate::{calculation, operand};
-use isa::constant::{FLAG_M, WORD_RANGE};
+use crate::calculation::double;
+use arithmetic::bits::{bit, with_bit};
+use arithmetic::shift::{Shifted, shift_by};
+use isa::constant::{DOUBLE_BITS, FLAG_M, WORD_BITS, WORD_RANGE};
 use isa::instruction::{ShiftKind, Shiftable};
 use isa::machine::{File, Register};
 
@@ -13,8 +15,10 @@ fn shift_in(f: File, r: Register, k: ShiftKind, n: i16) -> File
     ensures { result ≡ shift_in f r k n }
 {
     let sts = f.get(Register::Sts);
-    let s = arithmetic::shift::shift16(k, n, f.get(r), arithmetic::bits::bit(FLAG_M, sts));
-    f.with(Register::Sts, arithmetic::bits::with_bit(FLAG_M, s.m, sts))
+    let value = u32::from(f.get(r));
+    let m = u16::from(bit(FLAG_M, sts));
+    let s = shift_by(WORD_BITS, k, n, Shifted { value, m });
+    f.with(Register::Sts, with_bit(FLAG_M, s.m == 1, sts))
         .with(r, s.value as u16)
 }
 
@@ -23,14 +27,10 @@ fn shift_double(f: File, k: ShiftKind, n: i16) -> File
     ensures { result ≡ shift_double f k n }
 {
     let sts = f.get(Register::Sts);
-    let s = arithmetic::shift::shift32(
-        k,
-        n,
-        calculation::double(f),
-        arithmetic::bits::bit(FLAG_M, sts),
-    );
-    let flagged = f.with(Register::Sts, arithmetic::bits::with_bit(FLAG_M, s.m, sts));
-    flagged
+    let value = double(f);
+    let m = u16::from(bit(FLAG_M, sts));
+    let s = shift_by(DOUBLE_BITS, k, n, Shifted { value, m });
+    f.with(Register::Sts, with_bit(FLAG_M, s.m == 1, sts))
         .with(Register::A, (s.value / WORD_RANGE) as u16)
         .with(Register::D, (s.value % WORD_RANGE) as u16)
 }
@@ -52,8 +52,9 @@ pub fn shifted(f: File, t: Shiftable, k: ShiftKind, n: i16) -> File
     ensures { result ≡ shifted f t k n }
 {
     let r = shift_register(t);
-    if operand::is_zero(r) {
-        return shift_double(f, k, n);
+    if r == Register::Sts {
+        shift_double(f, k, n)
+    } else {
+        shift_in(f, r, k, n)
     }
-    shift_in(f, r, k, n)
 }

@@ -8,8 +8,5 @@ use isa::machine::File;
 pub fn skip_if(c: bool, f: File) -> File
     ensures { result ≡ skip_if c f }
 {
-    if c {
-        return f.next();
-    }
-    f
+    if c { f.next() } else { f }
 }

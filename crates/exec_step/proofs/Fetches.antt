@@ -8,6 +8,8 @@ use mathlib.Core.List.{List}
 use lib.ListN.{length}
 use lib.Dec.{leb, ltb, eqb}
 use borrow.Author.Tests.{leb-true, ltb-true}
+use Rattle.std.specs.declared.option.Option.{Option}
+use Rattle.std.specs.declared.option.Option.TheVariants.{None, Some}
 use Rattle.isa.specs.Machine.{ring_of, normal_table_of, alternate_table_of, table_words, slot_count, flag_of, next, reg}
 use Rattle.isa.specs.System.{with_extended}
 use Rattle.isa.specs.Address.{access}
@@ -18,9 +20,9 @@ use Rattle.isa.specs.Pages.{rights_of}
 use Rattle.isa.specs.Step.{Part, executed, instruction_stage}
 use Rattle.isa.specs.declared.access.AccessKind.TheVariants.{Fetch as ToFetch}
 use Rattle.isa.specs.declared.access.Rights.{Rights}
-use Rattle.isa.specs.declared.access.Translation.{Translation}
-use Rattle.isa.specs.declared.access.Translation.TheVariants.{NoAccess, Load, Store, LoadTable, StoreTable}
-use Rattle.isa.specs.declared.access.Translation.TheVariants.{Protection, PageFault, OutOfRange}
+use Rattle.std.specs.declared.result.Result.TheVariants.{Ok}
+use Rattle.isa.specs.declared.access.Place.{Place}
+use Rattle.isa.specs.declared.access.Place.TheVariants.{Load, Store, LoadTable, StoreTable}
 use Rattle.isa.specs.declared.instruction.Instruction.{Instruction}
 use Rattle.isa.specs.declared.instruction.Instruction.TheVariants as instructions
 use Rattle.isa.specs.declared.machine.Control.{Control}
@@ -33,10 +35,11 @@ use Rattle.isa.proofs.Tables.{Lasting, marked_keeps, user_keeps}
 use Rattle.isa.proofs.Tests.{either, decided, no_both, and_both, and_left, and_right}
 use Rattle.isa.proofs.Window.{no_window}
 use Rattle.paging.specs.Levels.{level_rights, on_ring}
+use Rattle.paging.proofs.Laws.{passed}
 use Rattle.event.specs.Events.{event_part, is_fine, by_privilege}
 use Rattle.event.specs.declared.Ending.{Ending}
 use Rattle.event.specs.declared.Event.{Event}
-use Rattle.event.specs.declared.Event.TheVariants.{Fine, Failed, Error, Privileged, NotPrivileged, Monitor, Illegal}
+use Rattle.event.specs.declared.Event.TheVariants.{Failed, Error, Privileged, NotPrivileged, Monitor, Illegal}
 use Rattle.exec_memory.specs.Stages.{level_core, ring_after}
 use Rattle.exec_memory.proofs.Stages.{FoundBy, FetchBy, fetch_found}
 use Rattle.exec_step.specs.Fetches.{Rests, Kept, no_page, page_at, page_of, page_after}
@@ -72,13 +75,13 @@ module _ {words : ℕ} {r : Rights} {k : Page} {t : List ℕ} (h : Rests words r
     kept_within = omega (arith, h.within)
 
     -- it passes
-    pub kept_place : Load (k.base + a % 1024) ≡ translate t words r (access ToFetch false a)
+    pub kept_place : Ok (Load (k.base + a % 1024)) ≡ translate t words r (access ToFetch false a)
     unfolding translate
     kept_place =
         let ring : entry.ring ≤ r.ring = at_slot (λ (e : Entry). e.ring ≤ r.ring) (omega (arith, h.own)) in
         let within : physical entry a < words = subst (λ (n : ℕ). n < words) place kept_within in
         rw (no_window r a h.paging_on h.low, h.paging_on)
-        (ap Load place
+        (ap (λ (n : ℕ). passed (Load n)) place
         ∙ sym (judged_passes entry (slot_of r.normal a) words r.ring a
         (at_slot (λ (e : Entry). e.fetch ≡ true) h.permitted) ring within))
 
@@ -116,7 +119,7 @@ module _ (words : ℕ) (r : Rights) (a : ℕ) (t : List ℕ) (normal : r.normal 
 
   -- a fetch from memory with paging on has marked its entry
   fetch_marks : (p : ℕ) → r.paging ≡ true → in_window r a ≡ false
-      → Load p ≡ translate t words r (access ToFetch false a) → (entry_at r.extended v i).pgu ≡ true
+      → Ok (Load p) ≡ translate t words r (access ToFetch false a) → (entry_at r.extended v i).pgu ≡ true
   unfolding marked
   fetch_marks p on out x =
       let slot : i < slot_count = omega (arith, normal) in
@@ -128,7 +131,7 @@ module _ (words : ℕ) (r : Rights) (a : ℕ) (t : List ℕ) (normal : r.normal 
 
   -- the page of a fetch from memory, if it is whole
   page_rests : (p : ℕ) → r.paging ≡ true → own_entry.ring < 3
-      → Load p ≡ translate t words r (access ToFetch false a)
+      → Ok (Load p) ≡ translate t words r (access ToFetch false a)
       → Kept words (on_ring r own_entry.ring) (page_at words a p) v
   page_rests p on low x =
       decided (λ (k : Page). Kept words (on_ring r own_entry.ring) k v) (leb 1024 (words - p / 1024 * 1024))
@@ -155,25 +158,21 @@ module _ (words : ℕ) (r : Rights) (a : ℕ) (t : List ℕ) (normal : r.normal 
       by = subst (FetchBy r own_entry a) (sym x) (fetch_found t words r a on)
 
   -- the ring q is that of the rights that the fetch left
-  pub page_kept : (x : Translation) (q : ℕ) → x ≡ translate t words r (access ToFetch false a)
+  pub page_kept : (x : Place) (q : ℕ) → Ok x ≡ translate t words r (access ToFetch false a)
       → q ≡ ring_after r own_entry.ring x → Kept words (on_ring r q) (page_after words (on_ring r q) a x) v
   page_kept x q e s =
       decided (λ (k : Page). Kept words (on_ring r q) k v) (r.paging && ltb q 3)
       (λ b. go (and_left r.paging (ltb q 3) b) (ltb-true q 3 (and_right r.paging (ltb q 3) b)) x e s)
       (λ b. none_kept words (on_ring r q) no_page v refl)
     where
-      go : r.paging ≡ true → q < 3 → (y : Translation) → y ≡ translate t words r (access ToFetch false a)
+      go : r.paging ≡ true → q < 3 → (y : Place) → Ok y ≡ translate t words r (access ToFetch false a)
           → q ≡ ring_after r own_entry.ring y → Kept words (on_ring r q) (page_of words a y) v
-      go on low NoAccess e s = none_kept words (on_ring r q) no_page v refl
       go on low (Load p) e s =
           let own : q ≡ own_entry.ring = s ∙ ap (λ (b : Bool). cond b own_entry.ring r.ring) on in
           rw own (page_rests p on (subst (λ (n : ℕ). n < 3) own low) e)
       go on low (Store p) e s = none_kept words (on_ring r q) no_page v refl
       go on low (LoadTable j) e s = none_kept words (on_ring r q) no_page v refl
       go on low (StoreTable j) e s = none_kept words (on_ring r q) no_page v refl
-      go on low (Protection g) e s = none_kept words (on_ring r q) no_page v refl
-      go on low (PageFault g) e s = none_kept words (on_ring r q) no_page v refl
-      go on low OutOfRange e s = none_kept words (on_ring r q) no_page v refl
 
 -- ---- an instruction on such a ring
 
@@ -194,28 +193,22 @@ rests_lasts words r k t i kind h =
     }
 
 -- an instruction that ends fine has left the tables as they are afterwards
-fine_tables : (l : ℕ) (c : Core) (m t : List ℕ) (b : Bool) (e : Event) → is_fine e ≡ true
+fine_tables : (l : ℕ) (c : Core) (m t : List ℕ) (b : Bool) (e : Option Event) → is_fine e ≡ true
     → (event_part l c m t (by_privilege b e)).tables ≡ t
 unfolding event_part by_privilege
-fine_tables l c m t b Fine h = refl
-fine_tables l c m t b (Failed x) h = absurd (no_both h)
-fine_tables l c m t b Error h = absurd (no_both h)
-fine_tables l c m t b (Privileged q) h = absurd (no_both h)
-fine_tables l c m t b NotPrivileged h = absurd (no_both h)
-fine_tables l c m t b (Monitor n) h = absurd (no_both h)
-fine_tables l c m t b Illegal h = absurd (no_both h)
+fine_tables l c m t b None h = refl
+fine_tables l c m t b (Some e) h = absurd (no_both h)
 
 -- privilege makes no event fine
-pub fine_before : (b : Bool) (e : Event) → is_fine (by_privilege b e) ≡ true → is_fine e ≡ true
+pub fine_before : (b : Bool) (e : Option Event) → is_fine (by_privilege b e) ≡ true → is_fine e ≡ true
 unfolding by_privilege
-fine_before b Fine h = refl
-fine_before b (Failed x) h = h
-fine_before b Error h = h
-fine_before true (Privileged q) h = h
-fine_before false (Privileged q) h = h
-fine_before b NotPrivileged h = h
-fine_before b (Monitor n) h = h
-fine_before b Illegal h = h
+fine_before b None h = refl
+fine_before b (Some (Failed x)) h = h
+fine_before b (Some Error) h = h
+fine_before b (Some (Privileged q)) h = h
+fine_before b (Some NotPrivileged) h = h
+fine_before b (Some (Monitor n)) h = h
+fine_before b (Some Illegal) h = h
 
 -- a PCR with the rights r
 abbrev pcr_with : Rights → ℕ

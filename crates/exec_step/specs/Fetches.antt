@@ -1,26 +1,37 @@
 -- The fetch of a level, and the page that is kept of it for the next one.
 use Rattle.std.specs.Prelude.{ℕ, ◌+◌, ◌-◌, ◌*◌, ◌/◌, ◌<◌, ◌≤◌, ◌≡◌, true, false, cond, ◌&&◌, List, length, leb, ltb, eqb}
+use Rattle.std.specs.declared.result.Result.{Result}
+use Rattle.std.specs.declared.result.Result.TheVariants.{Ok, Err}
 use Rattle.isa.specs.Machine.{page_words, entries_in_table}
 use Rattle.isa.specs.Address.{access}
-use Rattle.isa.specs.Pages.{Entry, entry_at, slot_of, translate, marked, word_at, passes}
+use Rattle.isa.specs.Pages.{Entry, entry_at, slot_of, translate, marked, word_at}
 use Rattle.isa.specs.declared.access.AccessKind.TheVariants.{Fetch as ToFetch}
 use Rattle.isa.specs.declared.access.Rights.{Rights}
-use Rattle.isa.specs.declared.access.Translation.{Translation}
-use Rattle.isa.specs.declared.access.Translation.TheVariants.{NoAccess, Load, Store, LoadTable, StoreTable}
-use Rattle.isa.specs.declared.access.Translation.TheVariants.{Protection, PageFault, OutOfRange}
+use Rattle.isa.specs.declared.access.Place.{Place}
+use Rattle.isa.specs.declared.access.Place.TheVariants.{Load, Store, LoadTable, StoreTable}
+use Rattle.isa.specs.declared.access.Fault.{Fault}
 use Rattle.exec_memory.specs.Stages.{ring_after}
 use Rattle.exec_step.specs.declared.fetch.FetchResult.{FetchResult}
 use Rattle.exec_step.specs.declared.fetch.Page.{Page}
 
 -- ---- the fetch
 
--- By the rights r, from the address a: where the word was found or why not, the word, the ring after it, and the tables
--- v with its mark.
-pub record FetchOf (m t : List ℕ) (r : Rights) (a : ℕ) (g : FetchResult) (v : List ℕ) : Type 0 where
-  pub place : g.place ≡ translate t (length m) r (access ToFetch false a)
+-- By the rights r, from the address a: where the word was found, the word, the ring after it, and the tables v with its
+-- mark.
+pub record FetchPassed (m t : List ℕ) (r : Rights) (a : ℕ) (g : FetchResult) (v : List ℕ) : Type 0 where
+  pub place : Ok g.place ≡ translate t (length m) r (access ToFetch false a)
   pub marks : v ≡ marked t (length m) r (access ToFetch false a)
   pub word : g.word ≡ word_at m v g.place
   pub ring : g.ring ≡ ring_after r (entry_at r.extended t (slot_of r.normal a)).ring g.place
+
+-- .. or why it failed
+pub record FetchFailed (m t : List ℕ) (r : Rights) (a : ℕ) (x : Fault) (v : List ℕ) : Type 0 where
+  pub fault : Err x ≡ translate t (length m) r (access ToFetch false a)
+  pub marks : v ≡ marked t (length m) r (access ToFetch false a)
+
+abbrev pub FetchOf : List ℕ → List ℕ → Rights → ℕ → Result FetchResult Fault → List ℕ → Type 0
+FetchOf m t r a (Ok g) v = FetchPassed m t r a g v
+FetchOf m t r a (Err x) v = FetchFailed m t r a x v
 
 -- ---- the kept page
 
@@ -54,24 +65,21 @@ page_at words a p =
     cond (leb page_words (words - base)) (record { number = a / page_words; base = base }) no_page
 
 -- the page of the word at the place x, if that is in memory
-abbrev pub page_of : ℕ → ℕ → Translation → Page
-page_of words a NoAccess = no_page
+abbrev pub page_of : ℕ → ℕ → Place → Page
 page_of words a (Load p) = page_at words a p
 page_of words a (Store p) = no_page
 page_of words a (LoadTable i) = no_page
 page_of words a (StoreTable i) = no_page
-page_of words a (Protection g) = no_page
-page_of words a (PageFault g) = no_page
-page_of words a OutOfRange = no_page
 
 -- the page that is to be kept after a fetch from the address a to the place x, which left the rights r
-abbrev pub page_after : ℕ → Rights → ℕ → Translation → Page
+abbrev pub page_after : ℕ → Rights → ℕ → Place → Page
 page_after words r a x = cond (r.paging && ltb r.ring 3) (page_of words a x) no_page
 
 -- .. where k was kept before it
-abbrev pub page_next : ℕ → Rights → Page → ℕ → Translation → Page
+abbrev pub page_next : ℕ → Rights → Page → ℕ → Place → Page
 page_next words r k a x = cond (eqb (a / page_words) k.number) k (page_after words r a x)
 
 -- .. and after a whole step: none, where the fetch failed
-abbrev pub page_left : ℕ → Rights → Page → ℕ → Translation → Page
-page_left words r k a x = cond (passes x) (page_next words r k a x) no_page
+abbrev pub page_left : ℕ → Rights → Page → ℕ → Result Place Fault → Page
+page_left words r k a (Ok p) = page_next words r k a p
+page_left words r k a (Err x) = no_page

@@ -12,9 +12,6 @@ use Rattle.isa.specs.declared.machine.Control.{Control}
 use Rattle.isa.specs.declared.machine.Core.{Core}
 use Rattle.isa.specs.declared.machine.File.{File}
 use Rattle.isa.specs.declared.machine.Register.TheVariants.{P}
-use Rattle.decode.specs.Exr.{exr_of}
-use Rattle.decode.specs.declared.Exr.{Exr}
-use Rattle.decode.specs.declared.Exr.TheVariants.{Source, Other}
 use Rattle.paging.specs.Levels.{level_rights}
 use Rattle.event.specs.Events.{event_part, ended_part, is_fine}
 use Rattle.event.specs.declared.Ending.{Ending}
@@ -39,12 +36,15 @@ abbrev pub FineAlone : Instruction → Ending → Type 0
 FineAlone i e = is_fine e.event ≡ true → unprivileged i ≡ true
 
 -- EXR's word is that of its register: the word that is decoded in the end, for the word w fetched
-abbrev pub followed_by : File → ℕ → Exr → ℕ
-followed_by f w (Source r) = operand f r
-followed_by f w Other = w
+abbrev pub followed_by : File → ℕ → Instruction → ℕ
+followed_by f w (Unprivileged u) = w
+followed_by f w (Privileged q) = w
+followed_by f w (Execute s) = operand f s
+followed_by f w (Monitor n) = w
+followed_by f w Illegal = w
 
 abbrev pub followed : File → ℕ → ℕ
-followed f w = followed_by f w (exr_of (decode w))
+followed f w = followed_by f w (decode w)
 
 -- the ending e is what a step answers for the word w, fetched from the address `at` in a file b of which f has P one
 -- further

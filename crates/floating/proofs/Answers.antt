@@ -1,5 +1,6 @@
 -- What the conversions answer, by the outcomes of their tests.
 -- Assumes nothing.
+use Rattle.std.specs.Prelude.{Ok, Err}
 use mathlib.Core.Path.{◌≡◌, refl, sym, ap, ◌∙◌}
 use mathlib.Core.Bool.{Bool, true, false, cond}
 use mathlib.Core.List.{[], ◌∷◌}
@@ -13,48 +14,46 @@ use Rattle.floating.specs.Conversions.{short_numbers, long_told, short_told}
 use Rattle.floating.specs.declared.form.Short.{Short}
 use Rattle.floating.specs.declared.form.Long.{Long}
 use Rattle.floating.specs.declared.form.Fields.{Fields}
-use Rattle.floating.specs.declared.form.LongAnswer.TheVariants.{Converted as IsLong, Refused as LongRefused}
-use Rattle.floating.specs.declared.form.ShortAnswer.TheVariants.{Converted as IsShort, Refused as ShortRefused}
 
 -- ---- short to long, f being the fields of s
 
 module _ (s : Short) (f : Fields) (e : f ≡ short_fields s) where
-  pub long_malformed : is_zero_short s ≡ false → malformed_short f ≡ true → to_long s ≡ LongRefused Malformed
+  pub long_malformed : is_zero_short s ≡ false → malformed_short f ≡ true → to_long s ≡ Err Malformed
   unfolding to_long
   long_malformed p q = simp (p, ap malformed_short (sym e) ∙ q)
 
-  pub long_converted : is_zero_short s ≡ false → malformed_short f ≡ false → to_long s ≡ IsLong (long_of (lengthened f))
+  pub long_converted : is_zero_short s ≡ false → malformed_short f ≡ false → to_long s ≡ Ok (long_of (lengthened f))
   unfolding to_long
   long_converted p q =
-      simp (p, ap malformed_short (sym e) ∙ q) (ap (λ (g : Fields). IsLong (long_of (lengthened g))) (sym e))
+      simp (p, ap malformed_short (sym e) ∙ q) (ap (λ (g : Fields). Ok (long_of (lengthened g))) (sym e))
 
-pub long_zero_law : (s : Short) → is_zero_short s ≡ true → to_long s ≡ IsLong long_zero
+pub long_zero_law : (s : Short) → is_zero_short s ≡ true → to_long s ≡ Ok long_zero
 unfolding to_long
 long_zero_law s p = simp (p)
 
 -- ---- long to short, f being the fields of l
 
 module _ (l : Long) (f : Fields) (e : f ≡ long_fields l) (p : is_zero_long l ≡ false) where
-  pub short_malformed : malformed_long f ≡ true → to_short l ≡ ShortRefused Malformed
+  pub short_malformed : malformed_long f ≡ true → to_short l ≡ Err Malformed
   unfolding to_short
   short_malformed q = simp (p, ap malformed_long (sym e) ∙ q)
 
-  pub short_beyond : malformed_long f ≡ false → beyond_match f ≡ true → to_short l ≡ ShortRefused ExponentRange
+  pub short_beyond : malformed_long f ≡ false → beyond_match f ≡ true → to_short l ≡ Err ExponentRange
   unfolding to_short
   short_beyond q r = simp (p, ap malformed_long (sym e) ∙ q, ap beyond_match (sym e) ∙ r)
 
   module _ (q : malformed_long f ≡ false) (r : beyond_match f ≡ false) where
-    pub short_inexact : loses_bits f ≡ true → to_short l ≡ ShortRefused Precision
+    pub short_inexact : loses_bits f ≡ true → to_short l ≡ Err Precision
     unfolding to_short
     short_inexact k = simp (p, ap malformed_long (sym e) ∙ q, ap beyond_match (sym e) ∙ r, ap loses_bits (sym e) ∙ k)
 
-    pub short_converted : loses_bits f ≡ false → to_short l ≡ IsShort (short_of (shortened f))
+    pub short_converted : loses_bits f ≡ false → to_short l ≡ Ok (short_of (shortened f))
     unfolding to_short
     short_converted k =
         simp (p, ap malformed_long (sym e) ∙ q, ap beyond_match (sym e) ∙ r, ap loses_bits (sym e) ∙ k)
-        (ap (λ (g : Fields). IsShort (short_of (shortened g))) (sym e))
+        (ap (λ (g : Fields). Ok (short_of (shortened g))) (sym e))
 
-pub short_zero_law : (l : Long) → is_zero_long l ≡ true → to_short l ≡ IsShort short_zero
+pub short_zero_law : (l : Long) → is_zero_long l ≡ true → to_short l ≡ Ok short_zero
 unfolding to_short
 short_zero_law l p = simp (p)
 
@@ -68,7 +67,7 @@ tell_long s = go (is_zero_short s) (malformed_short f)
     f = short_fields s
 
     go : (x y : Bool)
-        → long_numbers (cond x (IsLong long_zero) (cond y (LongRefused Malformed) (IsLong (long_of (lengthened f)))))
+        → long_numbers (cond x (Ok long_zero) (cond y (Err Malformed) (Ok (long_of (lengthened f)))))
         ≡ cond x (tells_by [] (long_words long_zero)) (tells_by ((y, 15) ∷ []) (long_words (long_of (lengthened f))))
     go true y = refl
     go false true = refl
@@ -83,9 +82,9 @@ tell_short l = go (is_zero_long l) (malformed_long f) (beyond_match f) (loses_bi
 
     go : (x y z w : Bool)
         → short_numbers
-        (cond x (IsShort short_zero)
-        (cond y (ShortRefused Malformed)
-        (cond z (ShortRefused ExponentRange) (cond w (ShortRefused Precision) (IsShort (short_of (shortened f)))))))
+        (cond x (Ok short_zero)
+        (cond y (Err Malformed)
+        (cond z (Err ExponentRange) (cond w (Err Precision) (Ok (short_of (shortened f)))))))
         ≡ cond x (tells_by [] (short_words short_zero))
         (tells_by ((y, 15) ∷ (z, 16) ∷ (w, 17) ∷ []) (short_words (short_of (shortened f))))
     go true y z w = refl

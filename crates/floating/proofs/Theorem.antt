@@ -1,5 +1,6 @@
 -- The theorems of the two floating forms.
 -- Assumes nothing.
+use Rattle.std.specs.Prelude.{Result, Ok, Err}
 use Prim.Native.Nat.{ℕ, ◌^◌}
 use mathlib.Core.Path.{◌≡◌, refl, sym, ap, ◌∙◌, subst}
 use mathlib.Core.Logic.{◌⊎◌, inl, inr, ⊎_elim}
@@ -22,10 +23,6 @@ use Rattle.floating.specs.Statement.{RefusedOne, Example, Holds, ExamplesHold, P
 use Rattle.floating.specs.declared.form.Short.{Short}
 use Rattle.floating.specs.declared.form.Long.{Long}
 use Rattle.floating.specs.declared.form.Fields.{Fields}
-use Rattle.floating.specs.declared.form.LongAnswer.{LongAnswer}
-use Rattle.floating.specs.declared.form.LongAnswer.TheVariants.{Converted as IsLong, Refused as LongRefused}
-use Rattle.floating.specs.declared.form.ShortAnswer.{ShortAnswer}
-use Rattle.floating.specs.declared.form.ShortAnswer.TheVariants.{Converted as IsShort, Refused as ShortRefused}
 use Rattle.floating.proofs.Fields.{short_fits, long_fits, short_of_words, short_of_fields, long_of_fields}
 use Rattle.floating.proofs.Fields.{fields_of_short, fields_of_long, zero_short, zero_long, lengthened_fits}
 use Rattle.floating.proofs.Fields.{shortened_lengthened, lengthened_formed, lengthened_keeps, lengthened_matched}
@@ -39,17 +36,11 @@ use Rattle.floating.proofs.Values.{normalised_not_zero}
 -- ---- accepted numbers
 
 -- what is refused is not converted, and words that are converted to are those of one number
-long_apart : (x : Refusal) (l : Long) → LongRefused x ≡ IsLong l → ⊥
-long_apart x l e = let z : ◌≡◌ {A = ℕ} 0 1 = cc in omega arith
+apart : {F : Type 0} (x : Refusal) (y : F) → ◌≡◌ {A = Result F Refusal} (Err x) (Ok y) → ⊥
+apart x y e = let z : ◌≡◌ {A = ℕ} 0 1 = cc in omega arith
 
-short_apart : (x : Refusal) (s : Short) → ShortRefused x ≡ IsShort s → ⊥
-short_apart x s e = let z : ◌≡◌ {A = ℕ} 0 1 = cc in omega arith
-
-same_long : (k l : Long) → IsLong k ≡ IsLong l → k ≡ l
-same_long k l e = cc
-
-same_short : (s u : Short) → IsShort s ≡ IsShort u → s ≡ u
-same_short s u e = cc
+same : {F : Type 0} (x y : F) → ◌≡◌ {A = Result F Refusal} (Ok x) (Ok y) → x ≡ y
+same x y e = cc
 
 -- a short number that is not zero passes its test and goes to l
 record Lengthens (s : Short) (l : Long) : Type 0 where
@@ -58,7 +49,7 @@ record Lengthens (s : Short) (l : Long) : Type 0 where
   image : long_of (lengthened (short_fields s)) ≡ l
 
 -- an accepted one is zero, or does so
-short_accepted : (s : Short) (l : Long) → to_long s ≡ IsLong l
+short_accepted : (s : Short) (l : Long) → to_long s ≡ Ok l
     → ((is_zero_short s ≡ true) × (long_zero ≡ l)) ⊎ Lengthens s l
 short_accepted s l e = go (is_zero_short s) (malformed_short f) refl refl
   where
@@ -67,10 +58,10 @@ short_accepted s l e = go (is_zero_short s) (malformed_short f) refl refl
 
     go : (x y : Bool) → is_zero_short s ≡ x → malformed_short f ≡ y
         → ((is_zero_short s ≡ true) × (long_zero ≡ l)) ⊎ Lengthens s l
-    go true y p q = inl (p, same_long _ _ (sym (long_zero_law s p) ∙ e))
-    go false true p q = absurd (long_apart _ _ (sym (long_malformed s f refl p q) ∙ e))
+    go true y p q = inl (p, same _ _ (sym (long_zero_law s p) ∙ e))
+    go false true p q = absurd (apart _ _ (sym (long_malformed s f refl p q) ∙ e))
     go false false p q =
-        inr (record { not_zero = p; formed = q; image = same_long _ _ (sym (long_converted s f refl p q) ∙ e) })
+        inr (record { not_zero = p; formed = q; image = same _ _ (sym (long_converted s f refl p q) ∙ e) })
 
 -- a long number that is not zero passes its three tests and goes to s
 record Shortens (l : Long) (s : Short) : Type 0 where
@@ -81,7 +72,7 @@ record Shortens (l : Long) (s : Short) : Type 0 where
   image : short_of (shortened (long_fields l)) ≡ s
 
 -- an accepted one is zero, or does so
-long_accepted : (l : Long) (s : Short) → to_short l ≡ IsShort s
+long_accepted : (l : Long) (s : Short) → to_short l ≡ Ok s
     → ((is_zero_long l ≡ true) × (short_zero ≡ s)) ⊎ Shortens l s
 long_accepted l s e = go (is_zero_long l) (malformed_long f) (beyond_match f) (loses_bits f) refl refl refl refl
   where
@@ -90,27 +81,27 @@ long_accepted l s e = go (is_zero_long l) (malformed_long f) (beyond_match f) (l
 
     go : (x y z w : Bool) → is_zero_long l ≡ x → malformed_long f ≡ y → beyond_match f ≡ z → loses_bits f ≡ w
         → ((is_zero_long l ≡ true) × (short_zero ≡ s)) ⊎ Shortens l s
-    go true y z w p q r k = inl (p, same_short _ _ (sym (short_zero_law l p) ∙ e))
-    go false true z w p q r k = absurd (short_apart _ _ (sym (short_malformed l f refl p q) ∙ e))
-    go false false true w p q r k = absurd (short_apart _ _ (sym (short_beyond l f refl p q r) ∙ e))
-    go false false false true p q r k = absurd (short_apart _ _ (sym (short_inexact l f refl p q r k) ∙ e))
+    go true y z w p q r k = inl (p, same _ _ (sym (short_zero_law l p) ∙ e))
+    go false true z w p q r k = absurd (apart _ _ (sym (short_malformed l f refl p q) ∙ e))
+    go false false true w p q r k = absurd (apart _ _ (sym (short_beyond l f refl p q r) ∙ e))
+    go false false false true p q r k = absurd (apart _ _ (sym (short_inexact l f refl p q r k) ∙ e))
     go false false false false p q r k =
-        let image = same_short _ _ (sym (short_converted l f refl p q r k) ∙ e) in
+        let image = same _ _ (sym (short_converted l f refl p q r k) ∙ e) in
         inr (record { not_zero = p; formed = q; within = r; kept = k; image = image })
 
 -- a long number refused with other than 15 has its top mantissa bit
-refused_formed : (l : Long) (x : Refusal) → (Malformed ≡ x → ⊥) → to_short l ≡ ShortRefused x
+refused_formed : (l : Long) (x : Refusal) → (Malformed ≡ x → ⊥) → to_short l ≡ Err x
     → malformed_long (long_fields l) ≡ false
 refused_formed l x other e = go (is_zero_long l) (malformed_long f) refl refl
   where
     f : Fields
     f = long_fields l
 
-    malformed : ShortRefused Malformed ≡ ShortRefused x → Malformed ≡ x
+    malformed : ◌≡◌ {A = Result Short Refusal} (Err Malformed) (Err x) → Malformed ≡ x
     malformed q = cc
 
     go : (z y : Bool) → is_zero_long l ≡ z → malformed_long f ≡ y → malformed_long f ≡ false
-    go true y p q = absurd (short_apart _ _ (sym e ∙ short_zero_law l p))
+    go true y p q = absurd (apart _ _ (sym e ∙ short_zero_law l p))
     go false true p q = absurd (other (malformed (sym (short_malformed l f refl p q) ∙ e)))
     go false false p q = q
 
@@ -137,8 +128,8 @@ module _ (s : Short) (w : ShortIsWords s) (z : is_zero_short s ≡ false)
     shortens = short_converted (long_of (lengthened f)) (lengthened f)
         (sym (fields_of_long (lengthened f) (lengthened_fits f fits)))
         (lengthened_not_zero f fits) (lengthened_formed f fits) (lengthened_matched f fits h) (lengthened_keeps f)
-        ∙ ap (λ (g : Fields). IsShort (short_of g)) (shortened_lengthened f fits)
-        ∙ ap IsShort (short_of_fields s w);
+        ∙ ap (λ (g : Fields). Ok (short_of g)) (shortened_lengthened f fits)
+        ∙ ap Ok (short_of_fields s w);
   }
 
 pub shorts_kept : ShortsKept
@@ -160,8 +151,8 @@ shortened_same l w m =
     shorts_kept s (short_of_words (shortened g) fits) l
     (long_converted s (shortened g) (sym (fields_of_short (shortened g) fits)) (shortened_not_zero g m)
     (shortened_formed g m)
-    ∙ ap (λ (f : Fields). IsLong (long_of f)) (lengthened_shortened g m)
-    ∙ ap IsLong (long_of_fields l w))
+    ∙ ap (λ (f : Fields). Ok (long_of f)) (lengthened_shortened g m)
+    ∙ ap Ok (long_of_fields l w))
 
 pub longs_kept : LongsKept
 longs_kept l w s e =
@@ -175,12 +166,12 @@ longs_kept l w s e =
 -- ---- no shared image
 
 pub no_shared_image : NoSharedImage
-no_shared_image s u w v l p q = same_short s u (sym (shorts_kept s w l p).shortens ∙ (shorts_kept u v l q).shortens)
+no_shared_image s u w v l p q = same s u (sym (shorts_kept s w l p).shortens ∙ (shorts_kept u v l q).shortens)
 
 -- ---- a long number refused with 16 or 17: a short one of its value would be lengthened to it
 
 -- an accepted short number that has the value of a normalised long one goes to that one
-image_of_law : (s : Short) → ShortIsWords s → (k : Long) → to_long s ≡ IsLong k
+image_of_law : (s : Short) → ShortIsWords s → (k : Long) → to_long s ≡ Ok k
     → (l : Long) → LongIsWords l → malformed_long (long_fields l) ≡ false → short_value s ≡ long_value l → k ≡ l
 image_of_law s w k e l v h same = ⊎_elim by_zero by_number_law (short_accepted s k e)
   where
@@ -209,9 +200,9 @@ refused_has_no_short l w r s v k e same =
     (clash Precision (λ d. let z : 15 ≡ 17 = ap refusal_number d in omega (arith, z)))
     r
   where
-    clash : (x : Refusal) → (Malformed ≡ x → ⊥) → to_short l ≡ ShortRefused x → ⊥
+    clash : (x : Refusal) → (Malformed ≡ x → ⊥) → to_short l ≡ Err x → ⊥
     clash x other q =
-        short_apart x s
+        apart x s
         (sym q
         ∙ ap to_short (sym (image_of_law s v k e l w (refused_formed l x other q) same))
         ∙ (shorts_kept s v k e).shortens)
@@ -219,8 +210,8 @@ refused_has_no_short l w r s v k e same =
 -- ---- document 002's examples, computed
 
 holds : (r : Example) → short_value r.short ≡ r.number *ℤ pos (2 ^ scale)
-    → long_value r.long ≡ short_value r.short → to_long r.short ≡ IsLong r.long
-    → to_short r.long ≡ IsShort r.short
+    → long_value r.long ≡ short_value r.short → to_long r.short ≡ Ok r.long
+    → to_short r.long ≡ Ok r.short
     → Holds r
 holds r v w p q = record { value = v; same = record { value = w; lengthens = p; shortens = q } }
 
@@ -241,25 +232,25 @@ refused_one = record { refused = refl; value = refl }
 
 -- ---- answers in document 02's numbers: each can be made again of its number and words
 
-abbrev long_at : Told → LongAnswer
+abbrev long_at : Told → Result Long Refusal
 long_at r =
     let w = r.values in
-    cond (eqb r.number 0) (IsLong (record { t = get_or w 0 0; a = get_or w 1 0; d = get_or w 2 0 }))
-    (LongRefused (refusal_at r.number))
+    cond (eqb r.number 0) (Ok (record { t = get_or w 0 0; a = get_or w 1 0; d = get_or w 2 0 }))
+    (Err (refusal_at r.number))
 
-long_again : (x : LongAnswer) → long_at (long_numbers x) ≡ x
-long_again (IsLong l) = refl
-long_again (LongRefused x) = rw (refusal_above x) (ap LongRefused (refusal_again x))
+long_again : (x : Result Long Refusal) → long_at (long_numbers x) ≡ x
+long_again (Ok l) = refl
+long_again (Err x) = rw (refusal_above x) (ap Err (refusal_again x))
 
-abbrev short_at : Told → ShortAnswer
+abbrev short_at : Told → Result Short Refusal
 short_at r =
     let w = r.values in
-    cond (eqb r.number 0) (IsShort (record { a = get_or w 0 0; d = get_or w 1 0 }))
-    (ShortRefused (refusal_at r.number))
+    cond (eqb r.number 0) (Ok (record { a = get_or w 0 0; d = get_or w 1 0 }))
+    (Err (refusal_at r.number))
 
-short_again : (x : ShortAnswer) → short_at (short_numbers x) ≡ x
-short_again (IsShort s) = refl
-short_again (ShortRefused x) = rw (refusal_above x) (ap ShortRefused (refusal_again x))
+short_again : (x : Result Short Refusal) → short_at (short_numbers x) ≡ x
+short_again (Ok s) = refl
+short_again (Err x) = rw (refusal_above x) (ap Err (refusal_again x))
 
 pub conversions_tell : ConversionsTell
 conversions_tell = record {

@@ -1,17 +1,14 @@
 -- Document 02, card 12: both conversions, "only where the value is exactly kept", with their refusals in their order.
-use Rattle.std.specs.Prelude.{ℕ, ◌+◌, ◌*◌, ◌-◌, ◌/◌, ◌%◌, ◌^◌, Bool, cond, not, ◌||◌, List, [], ◌∷◌, ltb, eqb}
+use Rattle.std.specs.Prelude.{Result, Ok, Err, ℕ, ◌+◌, ◌*◌, ◌-◌, ◌/◌, ◌%◌, ◌^◌, Bool, cond, not, ◌||◌, List, [], ◌∷◌, ltb, eqb}
 use Rattle.isa.specs.Machine.{bit}
 use Rattle.isa.specs.Answers.{refusal_number, Told, tells_by}
+use Rattle.isa.specs.declared.answer.Refusal.{Refusal}
 use Rattle.isa.specs.declared.answer.Refusal.TheVariants.{Malformed, ExponentRange, Precision}
 use Rattle.floating.specs.Forms.{short_fields, long_fields, short_of, long_of, short_zero, long_zero, is_zero_short}
 use Rattle.floating.specs.Forms.{is_zero_long, short_bias, long_bias}
 use Rattle.floating.specs.declared.form.Short.{Short}
 use Rattle.floating.specs.declared.form.Long.{Long}
 use Rattle.floating.specs.declared.form.Fields.{Fields}
-use Rattle.floating.specs.declared.form.LongAnswer.{LongAnswer}
-use Rattle.floating.specs.declared.form.LongAnswer.TheVariants.{Converted as IsLong, Refused as LongRefused}
-use Rattle.floating.specs.declared.form.ShortAnswer.{ShortAnswer}
-use Rattle.floating.specs.declared.form.ShortAnswer.TheVariants.{Converted as IsShort, Refused as ShortRefused}
 
 -- ---- short to long
 
@@ -32,12 +29,12 @@ unfoldable pub malformed_short : Fields → Bool
 malformed_short f = eqb f.exponent 0
 
 -- D13: "all bits 0 gives all bits 0; else e = 0 is 15"
-unfoldable pub to_long : Short → LongAnswer
+unfoldable pub to_long : Short → Result Long Refusal
 to_long s =
     let f = short_fields s in
-    cond (is_zero_short s) (IsLong long_zero)
-    (cond (malformed_short f) (LongRefused Malformed)
-    (IsLong (long_of (lengthened f))))
+    cond (is_zero_short s) (Ok long_zero)
+    (cond (malformed_short f) (Err Malformed)
+    (Ok (long_of (lengthened f))))
 
 -- ---- long to short
 
@@ -70,14 +67,14 @@ loses_bits f = not (eqb (f.mantissa % 2 ^ 9) 0)
 
 -- D14: "all bits 0 gives all bits 0; else bit 15 of A zero is 15; else E outside 16,129 to 16,639 is 16; else D mod 512
 -- not 0 is 17; else .."
-unfoldable pub to_short : Long → ShortAnswer
+unfoldable pub to_short : Long → Result Short Refusal
 to_short l =
     let f = long_fields l in
-    cond (is_zero_long l) (IsShort short_zero)
-    (cond (malformed_long f) (ShortRefused Malformed)
-    (cond (beyond_match f) (ShortRefused ExponentRange)
-    (cond (loses_bits f) (ShortRefused Precision)
-    (IsShort (short_of (shortened f))))))
+    cond (is_zero_long l) (Ok short_zero)
+    (cond (malformed_long f) (Err Malformed)
+    (cond (beyond_match f) (Err ExponentRange)
+    (cond (loses_bits f) (Err Precision)
+    (Ok (short_of (shortened f))))))
 
 -- ---- the same in document 02's numbers: 0 and the words, or a refusal's number and none
 
@@ -87,13 +84,13 @@ short_words s = s.a ∷ s.d ∷ []
 abbrev pub long_words : Long → List ℕ
 long_words l = l.t ∷ l.a ∷ l.d ∷ []
 
-abbrev pub long_numbers : LongAnswer → Told
-long_numbers (IsLong l) = record { number = 0; values = long_words l }
-long_numbers (LongRefused r) = record { number = refusal_number r; values = [] }
+abbrev pub long_numbers : Result Long Refusal → Told
+long_numbers (Ok l) = record { number = 0; values = long_words l }
+long_numbers (Err r) = record { number = refusal_number r; values = [] }
 
-abbrev pub short_numbers : ShortAnswer → Told
-short_numbers (IsShort s) = record { number = 0; values = short_words s }
-short_numbers (ShortRefused r) = record { number = refusal_number r; values = [] }
+abbrev pub short_numbers : Result Short Refusal → Told
+short_numbers (Ok s) = record { number = 0; values = short_words s }
+short_numbers (Err r) = record { number = refusal_number r; values = [] }
 
 -- "Answers: 15 ..; 16 ..; 17 ..; in this order."
 unfoldable pub long_told : Short → Told

@@ -3,15 +3,13 @@
 #![tactic(auto)]
 
 ghost use Rattle.std.specs.Prelude.{◌≡◌, false};
-ghost use Rattle.floating.specs.Forms.{is_zero_short, is_zero_long, short_fields, long_fields, short_of, long_of};
-ghost use Rattle.floating.specs.Forms.{FitsShort, FitsLong};
+ghost use Rattle.floating.specs.Forms.{FitsShort};
 ghost use Rattle.floating.specs.Conversions.{to_long, to_short, long_numbers, short_numbers, long_told, short_told};
 ghost use Rattle.floating.specs.Conversions.{lengthened, shortened, malformed_short, malformed_long};
 ghost use Rattle.floating.specs.Conversions.{beyond_match, loses_bits};
 
-use crate::form::{Fields, Long, LongAnswer, Short, ShortAnswer};
+use crate::form::{Fields, Long, Short};
 use isa::answer::Refusal;
-use isa::constant::WORD_RANGE;
 
 pub mod form;
 
@@ -35,72 +33,6 @@ const LOW_RANGE: u32 = 512;
 const MATCH_FIRST: u16 = BIAS_GAP + 1;
 
 const MATCH_LAST: u16 = BIAS_GAP + SHORT_EXPONENT_MOST;
-
-#[tactic(auto, unfolding(crate::specs::Forms::is_zero_short))]
-fn is_zero_short(s: Short) -> bool
-    ensures { result ≡ is_zero_short s }
-{
-    if s.a != 0 {
-        return false;
-    }
-    s.d == 0
-}
-
-#[tactic(auto, unfolding(crate::specs::Forms::is_zero_long))]
-fn is_zero_long(l: Long) -> bool
-    ensures { result ≡ is_zero_long l }
-{
-    if l.t != 0 {
-        return false;
-    }
-    if l.a != 0 {
-        return false;
-    }
-    l.d == 0
-}
-
-// The fields of words.
-fn short_fields(s: Short) -> Fields
-    ensures { result ≡ short_fields s }
-{
-    Fields {
-        sign: s.a / 0o100000 % 2,
-        exponent: s.a / 0o100 % 0o1000,
-        mantissa: (s.a % 0o100) as u32 * WORD_RANGE + s.d as u32,
-    }
-}
-
-fn long_fields(l: Long) -> Fields
-    ensures { result ≡ long_fields l }
-{
-    Fields {
-        sign: l.t / 0o100000 % 2,
-        exponent: l.t % 0o100000,
-        mantissa: l.a as u32 * WORD_RANGE + l.d as u32,
-    }
-}
-
-// The words of fields that fit the form.
-fn short_of(f: Fields) -> Short
-    requires { FitsShort f }
-    ensures { result ≡ short_of f }
-{
-    Short {
-        a: f.sign * 0o100000 + f.exponent * 0o100 + (f.mantissa / WORD_RANGE) as u16,
-        d: (f.mantissa % WORD_RANGE) as u16,
-    }
-}
-
-fn long_of(f: Fields) -> Long
-    requires { FitsLong f }
-    ensures { result ≡ long_of f }
-{
-    Long {
-        t: f.sign * 0o100000 + f.exponent,
-        a: (f.mantissa / WORD_RANGE) as u16,
-        d: (f.mantissa % WORD_RANGE) as u16,
-    }
-}
 
 // The fields in the other form.
 fn lengthen(f: Fields) -> Fields
@@ -146,10 +78,7 @@ fn malformed_long(f: Fields) -> bool
 fn beyond_match(f: Fields) -> bool
     ensures { result ≡ beyond_match f }
 {
-    if f.exponent < MATCH_FIRST {
-        return true;
-    }
-    MATCH_LAST < f.exponent
+    f.exponent < MATCH_FIRST || MATCH_LAST < f.exponent
 }
 
 // Refusal 17.
@@ -162,41 +91,38 @@ fn loses_bits(f: Fields) -> bool
 
 // A short number as a long one. Refusal 15.
 #[tactic(auto, unfolding(crate::specs::Conversions::to_long, crate::specs::Conversions::long_told))]
-pub fn short_to_long(s: Short) -> LongAnswer
+pub fn short_to_long(s: Short) -> Result<Long, Refusal>
     ensures value { result ≡ to_long s }
     ensures result_value { long_numbers result ≡ long_told s }
 {
-    if is_zero_short(s) {
-        return LongAnswer::Converted(Long { t: 0, a: 0, d: 0 });
+    if s.is_zero() {
+        return Ok(Long { t: 0, a: 0, d: 0 });
     }
-    let f = short_fields(s);
+    let f = s.fields();
     if malformed_short(f) {
-        return LongAnswer::Refused(Refusal::Malformed);
+        return Err(Refusal::Malformed);
     }
-    LongAnswer::Converted(long_of(lengthen(f)))
+    Ok(Long::of(lengthen(f)))
 }
 
 // A long number as a short one. Refusals 15, 16 and 17, in this order.
 #[tactic(auto, using(crate::proofs::Fields::shortened_fits, crate::proofs::Fields::matched, crate::proofs::Fields::long_fits), unfolding(crate::specs::Conversions::to_short, crate::specs::Conversions::short_told))]
-pub fn long_to_short(l: Long) -> ShortAnswer
+pub fn long_to_short(l: Long) -> Result<Short, Refusal>
     ensures value { result ≡ to_short l }
     ensures result_value { short_numbers result ≡ short_told l }
 {
-    if is_zero_long(l) {
-        return ShortAnswer::Converted(Short { a: 0, d: 0 });
+    if l.is_zero() {
+        return Ok(Short { a: 0, d: 0 });
     }
-    let f = long_fields(l);
-    let malformed = malformed_long(f);
-    let beyond = beyond_match(f);
-    let inexact = loses_bits(f);
-    if malformed {
-        return ShortAnswer::Refused(Refusal::Malformed);
+    let f = l.fields();
+    if malformed_long(f) {
+        return Err(Refusal::Malformed);
     }
-    if beyond {
-        return ShortAnswer::Refused(Refusal::ExponentRange);
+    if beyond_match(f) {
+        return Err(Refusal::ExponentRange);
     }
-    if inexact {
-        return ShortAnswer::Refused(Refusal::Precision);
+    if loses_bits(f) {
+        return Err(Refusal::Precision);
     }
-    ShortAnswer::Converted(short_of(shorten(f)))
+    Ok(Short::of(shorten(f)))
 }

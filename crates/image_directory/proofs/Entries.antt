@@ -90,11 +90,5 @@ pub named_next : (k n : ℕ) (i : List ℕ) → k < n
     → named_words (rest_of k n i) ≡ (image_entry_at k i).count + named_words (rest_of (k + 1) n i)
 named_next k n i h = ap named_words (rest_next k n i h)
 
-pub named_less : (k n c : ℕ) (i : List ℕ) (e : ImageEntry) → k < n → e ≡ image_entry_at k i → c ≡ e.count
-    → named_words (rest_of k n i) ≡ c + named_words (rest_of (k + 1) n i)
-named_less k n c i e h q p =
-    named_next k n i h
-    ∙ ap (λ (x : ℕ). x + named_words (rest_of (k + 1) n i)) (sym (p ∙ ap (λ (x : ImageEntry). x.count) q))
-
 pub named_end : (k n : ℕ) (i : List ℕ) → n ≤ k → named_words (rest_of k n i) ≡ 0
 named_end k n i h = ap named_words (rest_end k n i h)

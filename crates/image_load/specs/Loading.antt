@@ -1,29 +1,17 @@
--- What load finds in an image, step by step, and what it leaves.
-use Rattle.std.specs.Prelude.{ℕ, cond, not, List, length}
-use Rattle.isa.specs.Machine.{sizes_fit, in_range}
-use Rattle.isa.specs.Images.{contents_fit}
-use Rattle.isa.specs.Answers.{LoadCall}
+-- What load finds in an image, and what it leaves.
+use Rattle.std.specs.Prelude.{ℕ, List}
+use Rattle.std.specs.declared.result.Result.{Result}
+use Rattle.std.specs.declared.result.Result.TheVariants.{Ok, Err}
+use Rattle.isa.specs.Answers.{Answer, Call}
 use Rattle.isa.specs.declared.machine.State.{State}
-use Rattle.isa.specs.declared.answer.Refusal.TheVariants.{Sizes, State as StateRange, Contents}
-use Rattle.isa.specs.declared.answer.Answer.{Answer}
-use Rattle.isa.specs.declared.answer.Answer.TheVariants.{Done, Refused}
-use Rattle.image_directory.specs.Listing.{list_answer}
-use Rattle.image_load.specs.declared.LoadResult.{LoadResult}
+use Rattle.isa.specs.declared.answer.Refusal.{Refusal}
+use Rattle.isa.specs.declared.answer.Answered.{Answered}
 
--- all refusals but 2; 2
-unfoldable pub image_answer : List ℕ → List ℕ → List ℕ → Answer
-image_answer i m t =
-    cond (not (sizes_fit m t)) (Refused Sizes)
-    (cond (not (contents_fit i)) (Refused Contents) (list_answer (length m) i))
+-- the state, where the answer does not refuse it
+abbrev pub state_by : Answer → State → Result State Refusal
+state_by (Ok _) s = Ok s
+state_by (Err r) s = Err r
 
-unfoldable pub range_answer : State → Answer
-range_answer s = cond (not (in_range s)) (Refused StateRange) Done
-
--- what load answers and leaves, as one call
-abbrev pub call_of : LoadResult → List ℕ → List ℕ → LoadCall
+-- what an operation answers and leaves, as one call
+abbrev pub call_of : {A : Type 0} → Answered A → List ℕ → List ℕ → Call A
 call_of r m t = record { answer = r.answer; state = r.state; memory = m; tables = t }
-
--- what an answer leaves: the new where it is done, the old where it refuses
-abbrev pub by_answer {ℓ} : {A : Type ℓ} → Answer → A → A → A
-by_answer Done new old = new
-by_answer (Refused r) new old = old

@@ -3,9 +3,9 @@
 use Rattle.isa.specs.Machine.{first_device, largest_memory, table_words}
 use Rattle.isa.specs.Devices.{device_count, device_words}
 use Prim.Native.Nat.{ℕ, ◌+◌, ◌≤◌}
-use mathlib.Core.Path.{◌≡◌, refl, sym, ap, ◌∙◌}
+use mathlib.Core.Path.{◌≡◌, refl, ap, ◌∙◌}
 use mathlib.Core.Bool.{Bool, true, false, cond}
-use mathlib.Core.List.{List, [], ◌++◌, append_assoc}
+use mathlib.Core.List.{List, ◌++◌, append_assoc}
 use native.Mathlib.Omega.{arith}
 use lib.ListN.{length, drop, length-append}
 use lib.Seq.{paste}
@@ -13,30 +13,15 @@ use lib.Dec.{ltb}
 use borrow.Author.Tests.{ltb-false}
 use Rattle.isa.specs.Machine.{control_words}
 use Rattle.isa.specs.Images.{beside_memory, contents_size, contents_words, image_of, image_size}
-use Rattle.isa.specs.Answers.{state_answer, output_answer, write_answer, written_by, written_output}
+use Rattle.isa.specs.Answers.{Answer, state_answer, output_answer, write_answer}
 use Rattle.isa.specs.declared.machine.State.{State}
-use Rattle.isa.specs.declared.answer.Refusal.{Refusal}
 use Rattle.isa.specs.declared.answer.Refusal.TheVariants.{Output}
-use Rattle.isa.specs.declared.answer.Answer.{Answer}
-use Rattle.isa.specs.declared.answer.Answer.TheVariants.{Done, Refused}
-use Rattle.checks.specs.Answers.{first_of}
-use Rattle.image_write.specs.Writing.{room_answer}
-use Rattle.checks.proofs.Passed.{refused_not_done, sizes_of, memory_most, tables_all}
+use Rattle.std.specs.declared.result.Result.TheVariants.{Ok, Err}
+use Rattle.checks.proofs.Passed.{sizes_of, memory_most, tables_all}
 use Rattle.image_write.proofs.Joined.{joined}
 
--- contents and memory
-pub memory_put : (w m o c d e : List ℕ) (n : ℕ) → length w ≡ contents_size → length m ≡ n → c ≡ w
-    → d ≡ paste o 0 c contents_size
-    → e ≡ paste d contents_size m n
-    → e ≡ (w ++ m) ++ drop (n + contents_size) o
-memory_put w m o c d e n hw hm hc hd he =
-    let q : contents_size + n ≡ n + contents_size = omega arith in
-    let f : d ≡ w ++ drop contents_size o =
-    hd ∙ ap (λ (x : List ℕ). paste o 0 x contents_size) hc ∙ joined [] w o o 0 contents_size refl hw refl in
-    he ∙ joined w m o d contents_size n hw hm f ∙ ap (λ (x : ℕ). (w ++ m) ++ drop x o) q
-
 -- where the page tables and the devices stand among an image's words beside memory
-abbrev table_place : ℕ
+abbrev pub table_place : ℕ
 table_place = contents_size + first_device
 
 abbrev device_place : ℕ
@@ -79,39 +64,21 @@ image_put s m t o d e f g n hm hw ht hd he hf hg =
 
 -- ---- the answer
 
-module _ (s : State) (m t out : List ℕ) (a : Answer)
-    (g : a ≡ first_of (state_answer s m t) (room_answer (length m) (length out))) where
-  answer_is : a ≡ write_answer s m t out
-  unfolding write_answer room_answer
-  answer_is = g ∙ go (state_answer s m t)
-    where
-      go : (x : Answer) → first_of x (room_answer (length m) (length out)) ≡ output_answer m out x
-      go Done = refl
-      go (Refused r) = refl
-
-  pub write_done : (o : List ℕ) → a ≡ Done → o ≡ image_of s m t ++ drop (image_size m) out
-      → (Done ≡ write_answer s m t out) × (o ≡ written_output s m t out)
-  unfolding written_output
-  write_done o e h = (sym e ∙ answer_is, h ∙ ap (λ (x : Answer). written_by x s m t out) (sym e ∙ answer_is))
-
-  pub write_refused : (r : Refusal) → a ≡ Refused r
-      → (Refused r ≡ write_answer s m t out) × (out ≡ written_output s m t out)
-  unfolding written_output
-  write_refused r e = (sym e ∙ answer_is, ap (λ (x : Answer). written_by x s m t out) (sym e ∙ answer_is))
-
-  -- what an image needs
-  pub write_needs : a ≡ Done → (length m ≤ largest_memory) × ((length t ≡ table_words) × (image_size m ≤ length out))
-  unfolding room_answer
-  write_needs e = go (state_answer s m t) refl (sym g ∙ e)
-    where
-      go : (x : Answer) → state_answer s m t ≡ x → first_of x (room_answer (length m) (length out)) ≡ Done
-          → (length m ≤ largest_memory) × ((length t ≡ table_words) × (image_size m ≤ length out))
-      go Done q p =
-          let z = sizes_of s m t q in
-          (memory_most m t z, (tables_all m t z, fits (ltb (length out) (length m + beside_memory)) refl p))
-        where
-          fits : (b : Bool) → ltb (length out) (length m + beside_memory) ≡ b → cond b (Refused Output) Done ≡ Done
-              → length m + beside_memory ≤ length out
-          fits false l d = ltb-false (length out) (length m + beside_memory) l
-          fits true l d = absurd (refused_not_done Output d)
-      go (Refused r) q p = absurd (refused_not_done r p)
+-- what an image needs
+pub write_needs : (s : State) (m t out : List ℕ) → write_answer s m t out ≡ Ok tt
+    → (length m ≤ largest_memory) × ((length t ≡ table_words) × (image_size m ≤ length out))
+unfolding write_answer
+write_needs s m t out e = go (state_answer s m t) refl e
+  where
+    go : (x : Answer) → state_answer s m t ≡ x → output_answer m out x ≡ Ok tt
+        → (length m ≤ largest_memory) × ((length t ≡ table_words) × (image_size m ≤ length out))
+    go (Ok _) q p =
+        let z = sizes_of s m t q in
+        (memory_most m t z, (tables_all m t z, fits (ltb (length out) (length m + beside_memory)) refl p))
+      where
+        fits : (b : Bool) → ltb (length out) (length m + beside_memory) ≡ b
+            → ◌≡◌ {A = Answer} (cond b (Err Output) (Ok tt)) (Ok tt)
+            → length m + beside_memory ≤ length out
+        fits false l d = ltb-false (length out) (length m + beside_memory) l
+        fits true l d = cc
+    go (Err r) q p = cc

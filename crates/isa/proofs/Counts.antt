@@ -2,23 +2,30 @@
 -- Assumes nothing.
 use Rattle.std.proofs.Common.{◌≡◌, ℕ, zero, suc, ◌+◌, ◌%◌, ◌<◌, ◌≤◌, Bool, cond, not, ◌&&◌, eqb, List, [], ◌∷◌, length, sym, ap, ◌∙◌, add_assoc, mod-lt, mod-eq_of_lt, zero-add, arith, lit<}
 use native.Mathlib.Nat.{mod-add-mod, add-mod-mod}
-use Rattle.isa.specs.Pages.{Tested, translate, marked, passes, test_all}
+use Rattle.std.specs.declared.result.Result.{Result}
+use Rattle.std.specs.declared.result.Result.TheVariants.{Ok, Err}
+use Rattle.isa.specs.Pages.{Tested, tested_first, translate, marked, test_all}
 use Rattle.isa.specs.Step.{Part, Turn, counted, counted_turn, step, is_stopped, change_due}
 use Rattle.isa.specs.Run.{Run, ended, sum_range, counted_run, run_from}
 use Rattle.isa.specs.declared.machine.State.{State}
 use Rattle.isa.specs.declared.access.Access.{Access}
 use Rattle.isa.specs.declared.access.Rights.{Rights}
+use Rattle.isa.specs.declared.access.Place.{Place}
+use Rattle.isa.specs.declared.access.Fault.{Fault}
 use Rattle.isa.specs.declared.answer.Reason.TheVariants.{Interrupt}
 use Rattle.isa.proofs.Tests.{either}
 
 -- ---- accesses
 
 -- no more are made than there are
+pub first_most : (t : List ℕ) (y : Result Place Fault) (q : Tested) (n : ℕ) → q.made ≤ n
+    → (tested_first t y q).made ≤ suc n
+first_most t (Ok p) q n h = omega (arith, h)
+first_most t (Err f) q n h = omega arith
+
 pub made_most : (t : List ℕ) (words : ℕ) (r : Rights) (xs : List Access) → (test_all t words r xs).made ≤ length xs
 made_most t words r [] = omega arith
-made_most t words r (x ∷ xs) =
-    let h = made_most (marked t words r x) words r xs in
-    either (λ (q : Tested). q.made ≤ suc (length xs)) (passes (translate t words r x)) (omega (arith, h)) (omega arith)
+made_most t words r (x ∷ xs) = first_most t (translate t words r x) _ _ (made_most (marked t words r x) words r xs)
 
 -- ---- stages and steps
 

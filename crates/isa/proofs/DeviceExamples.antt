@@ -1,7 +1,7 @@
 -- What the devices' registers do, and IOX on each ring, computed from the definitions. The answers are worked out by
 -- hand from document 000, section 6.9, and rulings 31 to 34.
 -- Assumes nothing.
-use Rattle.std.proofs.Common.{◌≡◌, ℕ, ◌+◌, ◌*◌, List, [], ◌∷◌, replicate, refl}
+use Rattle.std.proofs.Common.{◌≡◌, ℕ, ◌+◌, ◌*◌, Option, Some, List, [], ◌∷◌, replicate, refl}
 use Rattle.isa.specs.Devices.{device_words, devices_of}
 use Rattle.isa.specs.Machine.{file_at, put_file, reg, with_reg, state_with}
 use Rattle.isa.specs.Flags.{adder, with_overflow, with_sum, product_overflow, division_fails, left_once, right_once}
@@ -18,6 +18,7 @@ use Rattle.isa.specs.Step.{user_stage, examined, deposited, transfer_stage, devi
 use Rattle.isa.specs.Step.{step_in, instruction_stage, put_other, block_stored, block_loaded, far_stage, settled}
 use Rattle.isa.specs.Step.{change_due, level_changed}
 use Rattle.isa.specs.Cases.{quiet, memory_of, tables_of, given, stated}
+use Rattle.isa.specs.declared.device.DeviceRegister.{DeviceRegister}
 use Rattle.isa.specs.declared.machine.Control.{Control}
 use Rattle.isa.specs.declared.machine.Core.{Core}
 use Rattle.isa.specs.declared.machine.Register.TheVariants.{A}
@@ -41,8 +42,12 @@ abbrev seen : Core → List ℕ
 seen c = reg c.file A ∷ lines c.control
 
 -- the register at an address, given or giving A, which held w
+abbrev by_register : Option DeviceRegister → ℕ → List ℕ
+by_register (Some r) w = seen (exchanged (core_of busy w) r)
+by_register _ w = []
+
 abbrev by : ℕ → ℕ → List ℕ
-by address w = seen (exchanged (core_of busy w) (register_of address))
+by address w = by_register (register_of address) w
 
 abbrev registers : List (List ℕ × List ℕ)
 registers =

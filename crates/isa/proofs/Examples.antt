@@ -18,8 +18,12 @@ use Rattle.isa.specs.Isolation.{permits, permits_writing, in_either, reachable}
 use Rattle.isa.specs.declared.machine.State.{State}
 use Rattle.isa.specs.declared.access.Rights.{Rights}
 use Rattle.isa.specs.declared.access.AccessKind.TheVariants.{Read}
-use Rattle.isa.specs.declared.access.Translation.{Translation}
-use Rattle.isa.specs.declared.access.Translation.TheVariants.{Load, LoadTable, OutOfRange}
+use Rattle.std.specs.declared.result.Result.{Result}
+use Rattle.std.specs.declared.result.Result.TheVariants.{Ok, Err}
+use Rattle.isa.specs.declared.access.Place.{Place}
+use Rattle.isa.specs.declared.access.Place.TheVariants.{Load, LoadTable}
+use Rattle.isa.specs.declared.access.Fault.{Fault}
+use Rattle.isa.specs.declared.access.Fault.TheVariants.{OutOfRange}
 use Rattle.isa.specs.declared.instruction.Instruction.{Instruction}
 use Rattle.isa.specs.declared.instruction.Instruction.TheVariants.{Privileged, Illegal}
 use Rattle.isa.specs.declared.instruction.System.TheVariants.{Control, Physical}
@@ -104,18 +108,18 @@ abbrev doubled : List (ℕ × ℕ)
 doubled = (loaded_b 0o000005, 0o177012) ∷ (loaded_b 0o100001, 0o177002) ∷ (loaded_b 0o177777, 0o177776) ∷ []
 
 -- where a load from a physical address goes, with 66,560 words of memory, in 19-bit and in extended mode
-abbrev loads_from : ℕ → List Translation
+abbrev loads_from : ℕ → List (Result Place Fault)
 loads_from p = physical_place false 66560 Read p ∷ physical_place true 66560 Read p ∷ []
 
-abbrev places : List (List Translation × List Translation)
+abbrev places : List (List (Result Place Fault) × List (Result Place Fault))
 places =
-    (loads_from 0o176777, Load 0o176777 ∷ Load 0o176777 ∷ [])
-    ∷ (loads_from 0o177000, Load 0o177000 ∷ LoadTable 0 ∷ [])
-    ∷ (loads_from 0o177377, Load 0o177377 ∷ LoadTable 255 ∷ [])
-    ∷ (loads_from 0o177400, LoadTable 0 ∷ LoadTable 256 ∷ [])
-    ∷ (loads_from 0o177777, LoadTable 255 ∷ LoadTable 511 ∷ [])
-    ∷ (loads_from 65536, Load 65536 ∷ Load 65536 ∷ [])
-    ∷ (loads_from 66560, OutOfRange ∷ OutOfRange ∷ [])
+    (loads_from 0o176777, Ok (Load 0o176777) ∷ Ok (Load 0o176777) ∷ [])
+    ∷ (loads_from 0o177000, Ok (Load 0o177000) ∷ Ok (LoadTable 0) ∷ [])
+    ∷ (loads_from 0o177377, Ok (Load 0o177377) ∷ Ok (LoadTable 255) ∷ [])
+    ∷ (loads_from 0o177400, Ok (LoadTable 0) ∷ Ok (LoadTable 256) ∷ [])
+    ∷ (loads_from 0o177777, Ok (LoadTable 255) ∷ Ok (LoadTable 511) ∷ [])
+    ∷ (loads_from 65536, Ok (Load 65536) ∷ Ok (Load 65536) ∷ [])
+    ∷ (loads_from 66560, Err OutOfRange ∷ Err OutOfRange ∷ [])
     ∷ []
 
 -- the words of displacement 5, and those of SEX and REX

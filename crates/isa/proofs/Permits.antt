@@ -8,9 +8,12 @@ use Rattle.isa.specs.Isolation.{MarksAlone, permits, permits_writing, some_below
 use Rattle.isa.specs.Isolation.{permitted_writing}
 use Rattle.isa.specs.declared.access.AccessKind.{AccessKind}
 use Rattle.isa.specs.declared.access.AccessKind.TheVariants.{Fetch, Read, Write, Indirect}
-use Rattle.isa.specs.declared.access.Translation.{Translation}
-use Rattle.isa.specs.declared.access.Translation.TheVariants.{NoAccess, Load, Store, LoadTable, StoreTable}
-use Rattle.isa.specs.declared.access.Translation.TheVariants.{Protection, PageFault, OutOfRange}
+use Rattle.std.specs.declared.result.Result.{Result}
+use Rattle.std.specs.declared.result.Result.TheVariants.{Ok, Err}
+use Rattle.isa.specs.declared.access.Place.{Place}
+use Rattle.isa.specs.declared.access.Place.TheVariants.{Load, Store, LoadTable, StoreTable}
+use Rattle.isa.specs.declared.access.Fault.{Fault}
+use Rattle.isa.specs.declared.access.Fault.TheVariants.{Protection, PageFault, OutOfRange}
 use Rattle.isa.proofs.Tests.{no_both, or_left, or_right, and_both, and_left, and_right}
 
 -- some number below n passes where one does
@@ -84,15 +87,15 @@ writing_permitted form t a b ring page =
 
 -- where an access that passed by the entry e goes: to load from a page that e permits, to store to one that it permits
 -- for writing
-abbrev pub By : Entry → ℕ → Translation → Type 0
-By e ring NoAccess = Unit {0}
-By e ring (Load p) = permits e ring (p / 1024) ≡ true
-By e ring (Store p) = permits_writing e ring (p / 1024) ≡ true
-By e ring (LoadTable i) = ⊥
-By e ring (StoreTable i) = ⊥
-By e ring (Protection g) = Unit {0}
-By e ring (PageFault g) = Unit {0}
-By e ring OutOfRange = Unit {0}
+abbrev pub PlaceBy : Entry → ℕ → Place → Type 0
+PlaceBy e ring (Load p) = permits e ring (p / 1024) ≡ true
+PlaceBy e ring (Store p) = permits_writing e ring (p / 1024) ≡ true
+PlaceBy e ring (LoadTable i) = ⊥
+PlaceBy e ring (StoreTable i) = ⊥
+
+abbrev pub By : Entry → ℕ → Result Place Fault → Type 0
+By e ring (Ok p) = PlaceBy e ring p
+By e ring (Err f) = Unit {0}
 
 page_of_law : (e : Entry) (va : ℕ) → physical e va / 1024 ≡ e.page
 page_of_law e va = omega arith
@@ -103,7 +106,7 @@ module _ (e : Entry) (ring va : ℕ) (some : some_permit e ≡ true) (allows : r
       and_both (and_both some allows)
       (eq-eqb e.page (physical e va / 1024) (sym (page_of_law e va)))
 
-  kind_by : (k : AccessKind) → needed e k ≡ true → By e ring (in_memory k (physical e va))
+  kind_by : (k : AccessKind) → needed e k ≡ true → PlaceBy e ring (in_memory k (physical e va))
   kind_by Fetch n = own_page
   kind_by Read n = own_page
   kind_by Write n = and_both own_page n
@@ -115,9 +118,10 @@ judged_by e slot words ring k va =
     go (some_permit e) refl (needed e k) refl (ring_allows e ring) refl (ltb (physical e va) words)
   where
     go : (x : Bool) → some_permit e ≡ x → (y : Bool) → needed e k ≡ y → (z : Bool) → ring_allows e ring ≡ z → (w : Bool)
-        → By e ring (cond (not x) (PageFault (paging_status k 16384 slot))
-        (cond (not y) (Protection (paging_status k 16384 slot))
-        (cond (not z) (Protection (paging_status k 0 slot)) (cond w (in_memory k (physical e va)) OutOfRange))))
+        → By e ring (cond (not x) (Err (PageFault (paging_status k 16384 slot)))
+        (cond (not y) (Err (Protection (paging_status k 16384 slot)))
+        (cond (not z) (Err (Protection (paging_status k 0 slot)))
+        (cond w (Ok (in_memory k (physical e va))) (Err OutOfRange)))))
     go false p y q z r w = tt
     go true p false q z r w = tt
     go true p true q false r w = tt
@@ -126,7 +130,7 @@ judged_by e slot words ring k va =
 
 -- a fetch passes by an entry that permits it to the ring and names a page of memory
 pub judged_passes : (e : Entry) (slot words ring va : ℕ) → e.fetch ≡ true → e.ring ≤ ring → physical e va < words
-    → judged e slot words ring Fetch va ≡ Load (physical e va)
+    → judged e slot words ring Fetch va ≡ Ok (Load (physical e va))
 unfolding judged within_memory
 judged_passes e slot words ring va h l w =
     rw (or_right (e.write || e.read) e.fetch h, h, le-leb e.ring ring l, lt-ltb (physical e va) words w) refl

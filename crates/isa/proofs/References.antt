@@ -1,14 +1,18 @@
 -- The number of references of a step and of a run is that of the references listed; no step has more than nine.
 -- Assumes nothing.
-use Rattle.std.proofs.Common.{◌≡◌, ℕ, zero, suc, ◌+◌, ◌-◌, ◌%◌, ◌≤◌, Bool, true, cond, not, ◌&&◌, eqb, ltb, List, [], ◌∷◌, ◌++◌, length, get_or, ℤ, sym, refl, ap, ◌∙◌, append-nil, le_trans, add-zero, arith, lit≤, length-append}
+use Rattle.std.proofs.Common.{◌≡◌, ℕ, zero, suc, ◌+◌, ◌-◌, ◌%◌, ◌≤◌, Bool, true, false, cond, not, ◌&&◌, eqb, ltb, List, [], ◌∷◌, ◌++◌, length, get_or, ℤ, sym, refl, ap, ◌∙◌, append-nil, le_trans, add-zero, arith, lit≤, length-append}
 use native.Mathlib.Nat.{mod-add-mod, add-mod-mod}
+use Rattle.std.specs.declared.option.Option.{Option}
+use Rattle.std.specs.declared.option.Option.TheVariants.{None, Some}
+use Rattle.std.specs.declared.result.Result.{Result}
+use Rattle.std.specs.declared.result.Result.TheVariants.{Ok, Err}
 use Rattle.isa.specs.Machine.{reg, next_core, core_of, with_core}
 use Rattle.isa.specs.Instructions.{indirect_request, request, memory_request}
 use Rattle.isa.specs.Address.{address_rule, indirect_access, effective_address}
-use Rattle.isa.specs.Pages.{Tested, slot_of, entry_at, translate, marked, test_all, passes, word_at, words_at}
-use Rattle.isa.specs.Pages.{rights_of}
-use Rattle.isa.specs.Physical.{two_words, first_place, second_place, first_fault, transfer_address, transfer_made}
-use Rattle.isa.specs.InputOutput.{answers, register_of, flip_flop, line_of}
+use Rattle.isa.specs.Pages.{Tested, none_tested, tested_first, slot_of, entry_at, translate, marked, test_all, after_test, passes}
+use Rattle.isa.specs.Pages.{word_at, words_at, rights_of}
+use Rattle.isa.specs.Physical.{two_words, word_addresses, test_physical, transfer_kind, physical_place, transfer_address}
+use Rattle.isa.specs.InputOutput.{register_of, flip_flop, line_of}
 use Rattle.isa.specs.Step.{Part, Turn, counted, counted_turn, finished, operands_tested, operands, indirect_tested}
 use Rattle.isa.specs.Step.{user_stage, physical_address, examined, deposited, transfer_stage, device_stage}
 use Rattle.isa.specs.Step.{ident_stage, system_stage, privileged, instruction_stage, instruction_of, after_fetch}
@@ -16,11 +20,12 @@ use Rattle.isa.specs.Step.{fetched, fetch_of, step_in, block_request, block_stor
 use Rattle.isa.specs.Step.{far_stage, settled, change_due, is_stopped, step}
 use Rattle.isa.specs.Run.{Run, sum_range, run_from}
 use Rattle.isa.specs.DeviceInput.{InputRun, input_call, is_spent, input_run_from}
-use Rattle.isa.specs.References.{Reference, virtual_at, accesses_made, operand_references, user_references}
+use Rattle.isa.specs.References.{Reference, virtual_at, physical_at, accesses_made, operand_references, user_references}
 use Rattle.isa.specs.References.{transfer_references, system_references, instruction_references, level_references}
-use Rattle.isa.specs.References.{far_references, left_references, references, run_references, input_run_references}
+use Rattle.isa.specs.References.{fetched_references, far_references, left_references, references, run_references, input_run_references}
 use Rattle.isa.specs.References.{StepCounts, RunCounts, InputRunCounts, AddressReads, most_references}
 use Rattle.isa.specs.References.{NineAtMost}
+use Rattle.isa.specs.declared.device.DeviceRegister.{DeviceRegister}
 use Rattle.isa.specs.declared.machine.Core.{Core}
 use Rattle.isa.specs.declared.machine.File.{File}
 use Rattle.isa.specs.declared.machine.State.{State}
@@ -40,19 +45,25 @@ use Rattle.isa.specs.declared.access.Access.{Access}
 use Rattle.isa.specs.declared.access.AccessKind.{AccessKind}
 use Rattle.isa.specs.declared.access.AccessKind.TheVariants.{Read, Write}
 use Rattle.isa.specs.declared.access.Rights.{Rights}
+use Rattle.isa.specs.declared.access.Place.{Place}
+use Rattle.isa.specs.declared.access.Fault.{Fault}
 use Rattle.isa.specs.declared.answer.Far.{Far}
 use Rattle.isa.specs.declared.answer.Far.TheVariants as fars
-use Rattle.isa.proofs.Tests.{either, alike, alike_twice}
-use Rattle.isa.proofs.Counts.{made_most}
+use Rattle.isa.proofs.Tests.{either, by_fault, alike, alike_by_fault, alike_twice}
+use Rattle.isa.proofs.Counts.{first_most, made_most}
 
 -- ---- the number that a step passes up is the length of its list
+
+first_length : (t : List ℕ) (y : Result Place Fault) (q : Tested) (xs : List Reference) → q.made ≡ length xs
+    → (tested_first t y q).made ≡ suc (length (cond (passes y) xs []))
+first_length t (Ok p) q xs h = ap suc h
+first_length t (Err f) q xs h = refl
 
 made_length : (t : List ℕ) (words : ℕ) (r : Rights) (xs : List Access)
     → (test_all t words r xs).made ≡ length (accesses_made t words r xs)
 made_length t words r [] = refl
 made_length t words r (x ∷ xs) =
-    alike (λ (q : Tested) (ys : List Reference). q.made ≡ suc (length ys)) (passes (translate t words r x))
-    (ap suc (made_length (marked t words r x) words r xs)) refl
+    first_length t (translate t words r x) _ _ (made_length (marked t words r x) words r xs)
 
 -- references of two lists, one after the other; and those of one, with none after them
 both_counted : (xs ys : List Reference) {n k : ℕ} → n ≡ length xs → k ≡ length ys → n + k ≡ length (xs ++ ys)
@@ -65,8 +76,8 @@ alone_counted {l} h j = (λ i. h i + j i) ∙ add-zero l
 abbrev Counts : Part → List Reference → Type 0
 Counts p xs = p.near.references ≡ length xs
 
-abbrev None : Part → Type 0
-None p = p.near.references ≡ 0
+abbrev Uncounted : Part → Type 0
+Uncounted p = p.near.references ≡ 0
 
 operands_counted : (c : Core) (m t : List ℕ) (u : User) (i : ℕ)
     → Counts (operands c m t u i) (operand_references c m t u i)
@@ -74,7 +85,7 @@ unfolding operands operands_tested operand_references finished
 operands_counted c m t u i =
     let xs = request u c.file i in
     let r = test_all t (length m) (rights_of c) xs in
-    alone_counted (made_length t (length m) (rights_of c) xs) (either None (passes r.fault) refl refl)
+    alone_counted (made_length t (length m) (rights_of c) xs) (by_fault Uncounted r.fault refl (λ f. refl))
 
 user_counted : (c : Core) (m t : List ℕ) (u : User) → Counts (user_stage c m t u) (user_references c m t u)
 unfolding user_stage indirect_tested user_references
@@ -83,9 +94,9 @@ user_counted c m t u =
     let r = test_all t (length m) (rights_of c) xs in
     let i = get_or (words_at m r.tables r.places) 0 0 in
     both_counted (accesses_made t (length m) (rights_of c) xs)
-    (cond (passes r.fault) (operand_references c m r.tables u i) [])
+    (after_test r.fault (operand_references c m r.tables u i) (λ f. []))
     (made_length t (length m) (rights_of c) xs)
-    (alike Counts (passes r.fault) (operands_counted c m r.tables u i) refl)
+    (alike_by_fault Counts r.fault (operands_counted c m r.tables u i) (λ f. refl))
 
 transfer_counted : (c : Core) (m t : List ℕ) (o : Transfer) (d : ℕ)
     → Counts (transfer_stage c m t o d) (transfer_references c m o d)
@@ -93,15 +104,38 @@ unfolding transfer_stage transfer_references
 transfer_counted c m t o d =
     let form = eqb c.control.extended 1 in
     let p = transfer_address c.file d in
-    let x = first_place form (length m) o p in
-    let y = second_place form (length m) o p in
-    alone_counted
-    (alike (λ (n : ℕ) (ys : List Reference). n ≡ suc (length ys)) (passes x && two_words o) refl refl)
-    (either None (passes (first_fault x y)) refl refl)
+    let r = test_physical t form (length m) (transfer_kind o) (word_addresses o p) in
+    alone_counted (go (physical_place form (length m) (transfer_kind o) p) (two_words o))
+    (by_fault Uncounted r.fault refl (λ f. refl))
+  where
+    k : AccessKind
+    k = transfer_kind o
+
+    form : Bool
+    form = eqb c.control.extended 1
+
+    next : ℕ
+    next = transfer_address c.file d + 1
+
+    one : (y : Result Place Fault) → suc (tested_first t y (none_tested t)).made ≡ 2
+    one (Ok p) = refl
+    one (Err f) = refl
+
+    go : (y : Result Place Fault) (two : Bool)
+        → (tested_first t y (test_physical t form (length m) k (cond two (next ∷ []) []))).made
+        ≡ suc (length (cond (passes y && two) (physical_at k next ∷ []) []))
+    go (Ok p) true = one (physical_place form (length m) k next)
+    go (Ok p) false = refl
+    go (Err f) two = refl
+
+device_counted : (c : Core) (m t : List ℕ) (r : Option DeviceRegister) → Uncounted (device_stage c m t r)
+unfolding device_stage
+device_counted c m t (Some r) = refl
+device_counted c m t _ = refl
 
 system_counted : (l : ℕ) (c : Core) (m t : List ℕ) (q : System)
     → Counts (system_stage l c m t q) (system_references c m q)
-unfolding examined deposited device_stage ident_stage
+unfolding examined deposited ident_stage
 system_counted l c m t (systems.Control o) = refl
 system_counted l c m t systems.TraPgc = refl
 system_counted l c m t systems.TrrPcr = refl
@@ -110,13 +144,13 @@ system_counted l c m t (systems.Irw n r) = refl
 system_counted l c m t (systems.Srb n) = refl
 system_counted l c m t (systems.Lrb n) = refl
 system_counted l c m t systems.Exam =
-    alone_counted refl (either None (ltb (physical_address c.file) (length m)) refl refl)
+    alone_counted refl (either Uncounted (ltb (physical_address c.file) (length m)) refl refl)
 system_counted l c m t systems.Depo =
-    alone_counted refl (either None (ltb (physical_address c.file) (length m)) refl refl)
+    alone_counted refl (either Uncounted (ltb (physical_address c.file) (length m)) refl refl)
 system_counted l c m t (systems.Physical o d) = transfer_counted c m t o d
-system_counted l c m t (systems.Iox n) = either None (answers (register_of n)) refl refl
-system_counted l c m t systems.Ioxt = either None (answers (register_of (reg c.file T))) refl refl
-system_counted l c m t (systems.Ident n) = either None (eqb (flip_flop c.control.devices (line_of n)) 1) refl refl
+system_counted l c m t (systems.Iox n) = device_counted c m t (register_of n)
+system_counted l c m t systems.Ioxt = device_counted c m t (register_of (reg c.file T))
+system_counted l c m t (systems.Ident n) = either Uncounted (eqb (flip_flop c.control.devices (line_of n)) 1) refl refl
 
 instruction_counted : (l : ℕ) (c : Core) (m t : List ℕ) (i : Instruction)
     → Counts (instruction_stage l c m t i) (instruction_references c m t i)
@@ -128,39 +162,44 @@ instruction_counted l c m t (instructions.Execute s) = refl
 instruction_counted l c m t (instructions.Monitor n) = refl
 instruction_counted l c m t instructions.Illegal = refl
 
+fetched_counted : (l : ℕ) (c : Core) (m t : List ℕ) (ring : ℕ) (x : Result Place Fault)
+    → Counts (fetched l c m t ring x) (virtual_at (fetch_of c) ∷ fetched_references c m t ring x)
+unfolding fetched
+fetched_counted l c m t ring (Ok p) =
+    let i = instruction_of c (word_at m t p) in
+    let after = after_fetch c ring p in
+    both_counted (virtual_at (fetch_of c) ∷ []) (instruction_references after m t i) refl
+    (instruction_counted l after m t i)
+fetched_counted l c m t ring (Err f) = refl
+
 level_counted : (l : ℕ) (c : Core) (m t : List ℕ) → Counts (step_in l c m t) (level_references c m t)
-unfolding step_in fetched level_references
+unfolding step_in level_references
 level_counted l c m t =
     let r = rights_of c in
     let ring = (entry_at r.extended t (slot_of r.normal (reg c.file P))).ring in
-    let x = translate t (length m) r (fetch_of c) in
-    let u = marked t (length m) r (fetch_of c) in
-    let i = instruction_of c (word_at m u x) in
-    let after = after_fetch c ring x in
-    both_counted (virtual_at (fetch_of c) ∷ []) (cond (passes x) (instruction_references after m u i) []) refl
-    (alike Counts (passes x) (instruction_counted l after m u i) refl)
+    fetched_counted l c m (marked t (length m) r (fetch_of c)) ring (translate t (length m) r (fetch_of c))
 
 -- a register block that was tested, and then stored or loaded
-block_counted : (s : State) (m t : List ℕ) (k : AccessKind) (stored failed : Turn) → stored.references ≡ 0
-    → failed.references ≡ 0
+block_counted : (s : State) (m t : List ℕ) (k : AccessKind) (stored : Turn) (failed : Fault → Turn)
+    → stored.references ≡ 0 → ((f : Fault) → (failed f).references ≡ 0)
     → let r = block_tested k s m t in
-    (counted_turn r.made (cond (passes r.fault) stored failed)).references
+    (counted_turn r.made (after_test r.fault stored failed)).references
     ≡ length (accesses_made t (length m) (rights_of (core_of s)) (block_request k s))
 block_counted s m t k stored failed h j =
     alone_counted (made_length t (length m) (rights_of (core_of s)) (block_request k s))
-    (either (λ (r : Turn). r.references ≡ 0) (passes (block_tested k s m t).fault) h j)
+    (by_fault (λ (r : Turn). r.references ≡ 0) (block_tested k s m t).fault h j)
 
-far_counted : (s : State) (n : ℕ) (m t : List ℕ) (far : Far)
+far_counted : (s : State) (n : ℕ) (m t : List ℕ) (far : Option Far)
     → (far_stage s n m t far).references ≡ length (far_references s m t far)
 unfolding far_stage block_stored block_loaded
-far_counted s n m t fars.Nothing = refl
-far_counted s n m t (fars.Call w) = refl
-far_counted s n m t (fars.ReadRegister l r) = refl
-far_counted s n m t (fars.WriteRegister l r) = refl
-far_counted s n m t fars.ReadPcr = refl
-far_counted s n m t fars.WritePcr = refl
-far_counted s n m t (fars.StoreBlock l) = block_counted s m t Write _ _ refl refl
-far_counted s n m t (fars.LoadBlock l) = block_counted s m t Read _ _ refl refl
+far_counted s n m t None = refl
+far_counted s n m t (Some (fars.Call w)) = refl
+far_counted s n m t (Some (fars.ReadRegister l r)) = refl
+far_counted s n m t (Some (fars.WriteRegister l r)) = refl
+far_counted s n m t (Some fars.ReadPcr) = refl
+far_counted s n m t (Some fars.WritePcr) = refl
+far_counted s n m t (Some (fars.StoreBlock l)) = block_counted s m t Write _ _ refl (λ f. refl)
+far_counted s n m t (Some (fars.LoadBlock l)) = block_counted s m t Read _ _ refl (λ f. refl)
 
 pub step_counts : StepCounts
 unfolding step settled references
@@ -282,10 +321,10 @@ user_most s c m t u =
     let one = address_reads u f t (length m) (rights_of c) in
     let three = le_trans (made_most r.tables (length m) (rights_of c) (request u f i)) (requests_most u f i).1 in
     let operand : Most s 3 (operands c m r.tables u i) =
-    either (λ (p : Part). Most s 3 (counted q.made p)) (passes q.fault) (omega (arith, three))
-    (omega (arith, three)) in
-    either (λ (p : Part). Most s 8 (counted r.made p)) (passes r.fault) (omega (arith, one, operand))
-    (omega (arith, one))
+    by_fault (λ (p : Part). Most s 3 (counted q.made p)) q.fault (omega (arith, three))
+    (λ x. omega (arith, three)) in
+    by_fault (λ (p : Part). Most s 8 (counted r.made p)) r.fault (omega (arith, one, operand))
+    (λ x. omega (arith, one))
 
 -- a register block
 block_most : (s : State) (m t : List ℕ) (k : AccessKind)
@@ -295,8 +334,23 @@ block_most s m t k =
     let most = made_most t (length m) (rights_of (core_of s)) (block_request k s) in
     omega (arith, made, most)
 
+-- one word or two by a physical address
+pub physical_most : (t : List ℕ) (form : Bool) (words : ℕ) (k : AccessKind) (ps : List ℕ)
+    → (test_physical t form words k ps).made ≤ length ps
+physical_most t form words k [] = omega arith
+physical_most t form words k (p ∷ ps) =
+    first_most t (physical_place form words k p) _ _ (physical_most t form words k ps)
+
+pub addresses_two : (o : Transfer) (p : ℕ) → length (word_addresses o p) ≤ 2
+addresses_two o p = either (λ (ps : List ℕ). suc (length ps) ≤ 2) (two_words o) (lit≤ tt) (lit≤ tt)
+
+device_most : (s : State) (c : Core) (m t : List ℕ) (r : Option DeviceRegister) → Most s 8 (device_stage c m t r)
+unfolding device_stage
+device_most s c m t (Some r) = lit≤ tt
+device_most s c m t _ = lit≤ tt
+
 system_most : (s : State) (l : ℕ) (c : Core) (m t : List ℕ) (q : System) → Most s 8 (system_stage l c m t q)
-unfolding examined deposited transfer_stage device_stage ident_stage
+unfolding examined deposited transfer_stage ident_stage
 system_most s l c m t (systems.Control o) = lit≤ tt
 system_most s l c m t systems.TraPgc = lit≤ tt
 system_most s l c m t systems.TrrPcr = lit≤ tt
@@ -311,13 +365,14 @@ system_most s l c m t systems.Depo =
 system_most s l c m t (systems.Physical o d) =
     let form = eqb c.control.extended 1 in
     let p = transfer_address c.file d in
-    let x = first_place form (length m) o p in
-    let y = second_place form (length m) o p in
-    let two = either (λ (n : ℕ). n + 0 + 0 ≤ 8) (passes x && two_words o) {x = 2} {y = 1} (lit≤ tt) (lit≤ tt) in
-    either (λ (r : Part). Most s 8 (counted (transfer_made o x) r)) (passes (first_fault x y)) two two
-system_most s l c m t (systems.Iox n) = either (Most s 8) (answers (register_of n)) (lit≤ tt) (lit≤ tt)
-system_most s l c m t systems.Ioxt =
-    either (Most s 8) (answers (register_of (reg c.file T))) (lit≤ tt) (lit≤ tt)
+    let xs = word_addresses o p in
+    let r = test_physical t form (length m) (transfer_kind o) xs in
+    let two = addresses_two o p in
+    let most = physical_most t form (length m) (transfer_kind o) xs in
+    by_fault (λ (p : Part). Most s 8 (counted r.made p)) r.fault (omega (arith, two, most))
+    (λ x. omega (arith, two, most))
+system_most s l c m t (systems.Iox n) = device_most s c m t (register_of n)
+system_most s l c m t systems.Ioxt = device_most s c m t (register_of (reg c.file T))
 system_most s l c m t (systems.Ident n) =
     either (Most s 8) (eqb (flip_flop c.control.devices (line_of n)) 1) (lit≤ tt) (lit≤ tt)
 
@@ -331,15 +386,19 @@ instruction_most s l c m t (instructions.Execute r) = lit≤ tt
 instruction_most s l c m t (instructions.Monitor n) = lit≤ tt
 instruction_most s l c m t instructions.Illegal = lit≤ tt
 
+fetched_most : (s : State) (l : ℕ) (c : Core) (m t : List ℕ) (ring : ℕ) (x : Result Place Fault)
+    → Most s most_references (fetched l c m t ring x)
+unfolding fetched
+fetched_most s l c m t ring (Ok p) =
+    let most = instruction_most s l (after_fetch c ring p) m t (instruction_of c (word_at m t p)) in omega (arith, most)
+fetched_most s l c m t ring (Err f) = lit≤ tt
+
 level_most : (s : State) (l : ℕ) (c : Core) (m t : List ℕ) → Most s most_references (step_in l c m t)
-unfolding step_in fetched
+unfolding step_in
 level_most s l c m t =
     let r = rights_of c in
     let ring = (entry_at r.extended t (slot_of r.normal (reg c.file P))).ring in
-    let x = translate t (length m) r (fetch_of c) in
-    let u = marked t (length m) r (fetch_of c) in
-    let most = instruction_most s l (after_fetch c ring x) m u (instruction_of c (word_at m u x)) in
-    either (λ (p : Part). Most s most_references (counted 1 p)) (passes x) (omega (arith, most)) (lit≤ tt)
+    fetched_most s l c m (marked t (length m) r (fetch_of c)) ring (translate t (length m) r (fetch_of c))
 
 pub nine_at_most : NineAtMost
 unfolding step settled

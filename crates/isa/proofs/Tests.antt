@@ -2,6 +2,10 @@
 -- Assumes nothing.
 use Rattle.std.proofs.Common.{◌≡◌, Bool, true, false, cond, ◌&&◌, ◌||◌, sym, refl}
 use mathlib.Core.Bool.{false≢true}
+use Rattle.std.specs.declared.option.Option.{Option}
+use Rattle.std.specs.declared.option.Option.TheVariants.{None, Some}
+use Rattle.isa.specs.Pages.{after_test}
+use Rattle.isa.specs.declared.access.Fault.{Fault}
 
 -- one of two values, by a test
 pub either : {A : Type 0} (P : A → Type 0) (b : Bool) {x y : A} → P x → P y → P (cond b x y)
@@ -12,6 +16,17 @@ either P false p q = q
 pub decided : {A : Type 0} (P : A → Type 0) (b : Bool) {x y : A} → (b ≡ true → P x) → (b ≡ false → P y) → P (cond b x y)
 decided P true p q = p refl
 decided P false p q = q refl
+
+-- .. by whether an access failed
+pub by_fault : {A : Type 0} (P : A → Type 0) (x : Option Fault) {y : A} {g : Fault → A} → P y
+    → ((f : Fault) → P (g f)) → P (after_test x y g)
+by_fault P None p q = p
+by_fault P (Some f) p q = q f
+
+pub alike_by_fault : {A B : Type 0} (R : A → B → Type 0) (x : Option Fault) {a : A} {g : Fault → A} {b : B}
+    {h : Fault → B} → R a b → ((f : Fault) → R (g f) (h f)) → R (after_test x a g) (after_test x b h)
+alike_by_fault R None p q = p
+alike_by_fault R (Some f) p q = q f
 
 -- two values by one test, and by the same two tests
 pub alike : {A B : Type 0} (R : A → B → Type 0) (x : Bool) {a b : A} {u v : B} → R a u → R b v

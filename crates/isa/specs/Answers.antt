@@ -17,14 +17,12 @@ use Rattle.isa.specs.declared.answer.Refusal.{Refusal}
 use Rattle.isa.specs.declared.answer.Refusal.TheVariants.{Sizes, State as StateRange, RaiseLevel, Contents}
 use Rattle.isa.specs.declared.answer.Refusal.TheVariants.{Kind, Target as TargetSize, Overlap, Bodies, View}
 use Rattle.isa.specs.declared.answer.Refusal.TheVariants.{Output, Unread, Malformed, ExponentRange, Precision}
-use Rattle.isa.specs.declared.answer.StepAnswer.{StepAnswer}
-use Rattle.isa.specs.declared.answer.StepAnswer.TheVariants.{Stepped, Refused as StepRefused}
-use Rattle.isa.specs.declared.answer.RunAnswer.{RunAnswer}
-use Rattle.isa.specs.declared.answer.RunAnswer.TheVariants.{Ran, Refused as RunRefused}
-use Rattle.isa.specs.declared.answer.SentAnswer.{SentAnswer}
-use Rattle.isa.specs.declared.answer.SentAnswer.TheVariants.{Sent, NoneSent, Refused as SentRefused}
-use Rattle.isa.specs.declared.answer.Answer.{Answer}
-use Rattle.isa.specs.declared.answer.Answer.TheVariants.{Done, Refused}
+use Rattle.isa.specs.declared.answer.Ran.{Ran}
+use Rattle.isa.specs.declared.answer.Answered.{Answered}
+use Rattle.std.specs.declared.option.Option.{Option}
+use Rattle.std.specs.declared.option.Option.TheVariants.{Some, None}
+use Rattle.std.specs.declared.result.Result.{Result}
+use Rattle.std.specs.declared.result.Result.TheVariants.{Ok, Err}
 
 -- ---- the numbers and values of each answer
 
@@ -47,42 +45,44 @@ refusal_number ExponentRange = 16
 refusal_number Precision = 17
 
 -- 0 where nothing was refused
-abbrev pub answer_number : Answer → ℕ
-answer_number Done = 0
-answer_number (Refused r) = refusal_number r
+abbrev pub answer_number : {A : Type 0} → Result A Refusal → ℕ
+answer_number (Ok _) = 0
+answer_number (Err r) = refusal_number r
 
-abbrev pub step_number : StepAnswer → ℕ
-step_number (Stepped n) = 0
-step_number (StepRefused r) = refusal_number r
+-- what operations answer, each or a refusal: raise, tick, a typed character, load, write and view nothing more; a step
+-- the number of its interrupt or 0; a run the steps taken, the reason and the references made; a read out the character
+-- sent last, or none
+abbrev pub Answer : Type 0
+Answer = Result (Unit {0}) Refusal
+
+abbrev pub StepAnswer : Type 0
+StepAnswer = Result ℕ Refusal
+
+abbrev pub RunAnswer : Type 0
+RunAnswer = Result Ran Refusal
+
+abbrev pub SentAnswer : Type 0
+SentAnswer = Result (Option ℕ) Refusal
 
 -- the interrupt that a step gave, 0 if none
 abbrev pub interrupt_given : StepAnswer → ℕ
-interrupt_given (Stepped n) = n
-interrupt_given (StepRefused r) = 0
-
-abbrev pub run_number : RunAnswer → ℕ
-run_number (Ran k w g) = 0
-run_number (RunRefused r) = refusal_number r
+interrupt_given (Ok n) = n
+interrupt_given (Err r) = 0
 
 abbrev pub steps_taken : RunAnswer → ℕ
-steps_taken (Ran k w g) = k
-steps_taken (RunRefused r) = 0
+steps_taken (Ok r) = r.steps
+steps_taken (Err r) = 0
 
 -- document 02, card 7: "run answers the sum"; ruling 7.4: "A refused run tells no sum", so that this 0 is never told
 abbrev pub references_made : RunAnswer → ℕ
-references_made (Ran k w g) = g
-references_made (RunRefused r) = 0
+references_made (Ok r) = r.references
+references_made (Err r) = 0
 
 -- what a read out is answered: the character, or ruling 40's 256 for none; beside a refusal there is none
-abbrev pub sent_number : SentAnswer → ℕ
-sent_number (Sent w) = 0
-sent_number NoneSent = 0
-sent_number (SentRefused r) = refusal_number r
-
 abbrev pub character_sent_of : SentAnswer → ℕ
-character_sent_of (Sent w) = w
-character_sent_of NoneSent = character_range
-character_sent_of (SentRefused r) = character_range
+character_sent_of (Ok (Some w)) = w
+character_sent_of (Ok None) = character_range
+character_sent_of (Err r) = character_range
 
 -- "the reason is stopped, level, spent or interrupt": document 01 has no numbers for them; ours (docs/DECISIONS.md,
 -- part 2, 13) are in the order of its tests
@@ -97,27 +97,27 @@ reason_number Interrupt = 3
 -- "Every operation first refuses 1: memory or tables of another size than above."; "Step, and run .. 2, a state out of
 -- the ranges above."
 unfoldable pub state_answer : State → List ℕ → List ℕ → Answer
-state_answer s m t = cond (not (sizes_fit m t)) (Refused Sizes) (cond (not (in_range s)) (Refused StateRange) Done)
+state_answer s m t = cond (not (sizes_fit m t)) (Err Sizes) (cond (not (in_range s)) (Err StateRange) (Ok tt))
 
 -- what an operation answers and leaves
-pub record StepCall : Type 0 where
-  pub answer : StepAnswer
+pub record Call (A : Type 0) : Type 0 where
+  pub answer : Result A Refusal
   pub state : State
   pub memory : List ℕ
   pub tables : List ℕ
 
-pub record RunCall : Type 0 where
-  pub answer : RunAnswer
-  pub state : State
-  pub memory : List ℕ
-  pub tables : List ℕ
+abbrev pub StepCall : Type 0
+StepCall = Call ℕ
+
+abbrev pub RunCall : Type 0
+RunCall = Call Ran
 
 abbrev pub stepped_call : Turn → StepCall
-stepped_call r = record { answer = Stepped r.gave; state = r.state; memory = r.memory; tables = r.tables }
+stepped_call r = record { answer = Ok r.gave; state = r.state; memory = r.memory; tables = r.tables }
 
 abbrev pub ran_call : Run → RunCall
 ran_call r = record {
-  answer = Ran r.steps r.reason r.references;
+  answer = Ok (record { steps = r.steps; reason = r.reason; references = r.references });
   state = r.state;
   memory = r.memory;
   tables = r.tables;
@@ -125,12 +125,12 @@ ran_call r = record {
 
 -- "A refusal gives its number and leaves state and lent words"
 abbrev pub step_call_by : Answer → State → List ℕ → List ℕ → StepCall
-step_call_by Done s m t = stepped_call (step s m t)
-step_call_by (Refused r) s m t = record { answer = StepRefused r; state = s; memory = m; tables = t }
+step_call_by (Ok _) s m t = stepped_call (step s m t)
+step_call_by (Err r) s m t = record { answer = Err r; state = s; memory = m; tables = t }
 
 abbrev pub run_call_by : Answer → Bool → ℕ → State → List ℕ → List ℕ → RunCall
-run_call_by Done first n s m t = ran_call (run_from first n 0 s m t)
-run_call_by (Refused r) first n s m t = record { answer = RunRefused r; state = s; memory = m; tables = t }
+run_call_by (Ok _) first n s m t = ran_call (run_from first n 0 s m t)
+run_call_by (Err r) first n s m t = record { answer = Err r; state = s; memory = m; tables = t }
 
 unfoldable pub step_call : State → List ℕ → List ℕ → StepCall
 step_call s m t = step_call_by (state_answer s m t) s m t
@@ -151,16 +151,16 @@ abbrev pub raised : State → ℕ → State
 raised s l = with_control_words s (with_pid (control_of s) (with_bit l 1 s.control.pid))
 
 abbrev pub level_answer : ℕ → Answer → Answer
-level_answer l Done = cond (device_level l) Done (Refused RaiseLevel)
-level_answer l (Refused r) = Refused r
+level_answer l (Ok _) = cond (device_level l) (Ok tt) (Err RaiseLevel)
+level_answer l (Err r) = Err r
 
-pub record StateCall : Type 0 where
-  pub answer : Answer
-  pub state : State
+-- an operation that leaves memory and tables alone
+abbrev pub StateCall : Type 0
+StateCall = Answered (Unit {0})
 
 abbrev pub raise_call_by : Answer → State → ℕ → StateCall
-raise_call_by Done s l = record { answer = Done; state = raised s l }
-raise_call_by (Refused r) s l = record { answer = Refused r; state = s }
+raise_call_by (Ok _) s l = record { answer = Ok tt; state = raised s l }
+raise_call_by (Err r) s l = record { answer = Err r; state = s }
 
 unfoldable pub raise_call : State → ℕ → List ℕ → List ℕ → StateCall
 raise_call s l m t = raise_call_by (level_answer l (state_answer s m t)) s l
@@ -170,8 +170,8 @@ raise_call s l m t = raise_call_by (level_answer l (state_answer s m t)) s l
 -- Ruling 36: each "first refuses 1, then 2, allowed on a stopped machine too". Memory and tables are looked at for
 -- refusal 1 alone.
 abbrev pub tick_call_by : Answer → State → StateCall
-tick_call_by Done s = record { answer = Done; state = with_control_words s (ticked (control_of s)) }
-tick_call_by (Refused r) s = record { answer = Refused r; state = s }
+tick_call_by (Ok _) s = record { answer = Ok tt; state = with_control_words s (ticked (control_of s)) }
+tick_call_by (Err r) s = record { answer = Err r; state = s }
 
 unfoldable pub tick_call : State → List ℕ → List ℕ → StateCall
 tick_call s m t = tick_call_by (state_answer s m t) s
@@ -181,31 +181,30 @@ abbrev pub is_unread : State → Bool
 is_unread s = s.devices.input.unread == 1
 
 abbrev pub unread_answer : State → Answer → Answer
-unread_answer s Done = cond (is_unread s) (Refused Unread) Done
-unread_answer s (Refused r) = Refused r
+unread_answer s (Ok _) = cond (is_unread s) (Err Unread) (Ok tt)
+unread_answer s (Err r) = Err r
 
 -- the character w is below 256 by its type
 abbrev pub type_call_by : Answer → State → ℕ → StateCall
-type_call_by Done s w = record { answer = Done; state = with_control_words s (typed (control_of s) w) }
-type_call_by (Refused r) s w = record { answer = Refused r; state = s }
+type_call_by (Ok _) s w = record { answer = Ok tt; state = with_control_words s (typed (control_of s) w) }
+type_call_by (Err r) s w = record { answer = Err r; state = s }
 
 unfoldable pub type_call : State → ℕ → List ℕ → List ℕ → StateCall
 type_call s w m t = type_call_by (unread_answer s (state_answer s m t)) s w
 
 -- "the character sent last is read out between steps, once, and else the answer is none"
-pub record ReadOutCall : Type 0 where
-  pub answer : SentAnswer
-  pub state : State
+abbrev pub ReadOutCall : Type 0
+ReadOutCall = Answered (Option ℕ)
 
 abbrev pub waits : State → Bool
 waits s = s.devices.output.waits == 1
 
 abbrev pub read_out_call_by : Answer → State → ReadOutCall
-read_out_call_by Done s = record {
-  answer = cond (waits s) (Sent s.devices.output.character) NoneSent;
+read_out_call_by (Ok _) s = record {
+  answer = cond (waits s) (Ok (Some s.devices.output.character)) (Ok None);
   state = cond (waits s) (with_control_words s (read_out (control_of s))) s;
 }
-read_out_call_by (Refused r) s = record { answer = SentRefused r; state = s }
+read_out_call_by (Err r) s = record { answer = Err r; state = s }
 
 unfoldable pub read_out_call : State → List ℕ → List ℕ → ReadOutCall
 read_out_call s m t = read_out_call_by (state_answer s m t) s
@@ -214,31 +213,28 @@ read_out_call s m t = read_out_call_by (state_answer s m t) s
 
 -- "Load: 4, contents short or over 32 entries; for each entry 5 .. 6 .. 7 .. 8, bodies other than exactly the rest; 2."
 abbrev pub bodies_answer : List ℕ → Answer → Answer
-bodies_answer i (Refused r) = Refused r
-bodies_answer i Done =
-    cond (not (named_words (contents i) == length (bodies i))) (Refused Bodies)
-    (cond (not (in_range (loaded_state i))) (Refused StateRange) Done)
+bodies_answer i (Err r) = Err r
+bodies_answer i (Ok _) =
+    cond (not (named_words (contents i) == length (bodies i))) (Err Bodies)
+    (cond (not (in_range (loaded_state i))) (Err StateRange) (Ok tt))
 
 unfoldable pub load_answer : List ℕ → List ℕ → List ℕ → Answer
 load_answer i m t =
-    cond (not (sizes_fit m t)) (Refused Sizes)
-    (cond (not (contents_fit i)) (Refused Contents) (bodies_answer i (entries_answer (length m) [] (contents i))))
+    cond (not (sizes_fit m t)) (Err Sizes)
+    (cond (not (contents_fit i)) (Err Contents) (bodies_answer i (entries_answer (length m) [] (contents i))))
 
 -- s is the state that a refusal hands back
-pub record LoadCall : Type 0 where
-  pub answer : Answer
-  pub state : State
-  pub memory : List ℕ
-  pub tables : List ℕ
+abbrev pub LoadCall : Type 0
+LoadCall = Call (Unit {0})
 
 abbrev pub load_call_by : Answer → State → List ℕ → List ℕ → List ℕ → LoadCall
-load_call_by Done s i m t = record {
-  answer = Done;
+load_call_by (Ok _) s i m t = record {
+  answer = Ok tt;
   state = loaded_state i;
   memory = loaded_words kind_memory (length m) i;
   tables = loaded_words kind_tables table_words i;
 }
-load_call_by (Refused r) s i m t = record { answer = Refused r; state = s; memory = m; tables = t }
+load_call_by (Err r) s i m t = record { answer = Err r; state = s; memory = m; tables = t }
 
 unfoldable pub load_call : State → List ℕ → List ℕ → List ℕ → LoadCall
 load_call s i m t = load_call_by (load_answer i m t) s i m t
@@ -247,15 +243,15 @@ load_call s i m t = load_call_by (load_answer i m t) s i m t
 
 -- "Write: 2; 10, the lent output is too short. Words past the image stay."
 abbrev pub output_answer : List ℕ → List ℕ → Answer → Answer
-output_answer m out Done = cond (nat_lt (length out) (image_size m)) (Refused Output) Done
-output_answer m out (Refused r) = Refused r
+output_answer m out (Ok _) = cond (nat_lt (length out) (image_size m)) (Err Output) (Ok tt)
+output_answer m out (Err r) = Err r
 
 unfoldable pub write_answer : State → List ℕ → List ℕ → List ℕ → Answer
 write_answer s m t out = output_answer m out (state_answer s m t)
 
 abbrev pub written_by : Answer → State → List ℕ → List ℕ → List ℕ → List ℕ
-written_by Done s m t out = image_of s m t ++ drop (image_size m) out
-written_by (Refused r) s m t out = out
+written_by (Ok _) s m t out = image_of s m t ++ drop (image_size m) out
+written_by (Err r) s m t out = out
 
 -- the output after it
 unfoldable pub written_output : State → List ℕ → List ℕ → List ℕ → List ℕ
@@ -271,12 +267,12 @@ target_of Tables m t = t
 
 unfoldable pub view_answer : Target → ℕ → ℕ → List ℕ → List ℕ → Answer
 view_answer k a n m t =
-    cond (not (sizes_fit m t)) (Refused Sizes) (cond (nat_lt (length (target_of k m t)) (a + n)) (Refused View) Done)
+    cond (not (sizes_fit m t)) (Err Sizes) (cond (nat_lt (length (target_of k m t)) (a + n)) (Err View) (Ok tt))
 
 -- "a refused view is empty"
 abbrev pub viewed_by : Answer → List ℕ → ℕ → ℕ → List ℕ
-viewed_by Done l a n = take n (drop a l)
-viewed_by (Refused r) l a n = []
+viewed_by (Ok _) l a n = take n (drop a l)
+viewed_by (Err r) l a n = []
 
 unfoldable pub viewed : Target → ℕ → ℕ → List ℕ → List ℕ → List ℕ
 viewed k a n m t = viewed_by (view_answer k a n m t) (target_of k m t) a n
@@ -294,28 +290,28 @@ answer_numbers a = record { number = answer_number a; values = [] }
 
 -- a step's value is the number of its interrupt, 0 if none
 abbrev pub step_values : StepAnswer → List ℕ
-step_values (Stepped n) = n ∷ []
-step_values (StepRefused r) = []
+step_values (Ok n) = n ∷ []
+step_values (Err r) = []
 
 abbrev pub step_numbers : StepAnswer → Told
-step_numbers a = record { number = step_number a; values = step_values a }
+step_numbers a = record { number = answer_number a; values = step_values a }
 
 -- a run's are the steps taken, the reason and the references made
 abbrev pub run_values : RunAnswer → List ℕ
-run_values (Ran k w g) = k ∷ reason_number w ∷ g ∷ []
-run_values (RunRefused r) = []
+run_values (Ok r) = r.steps ∷ reason_number r.reason ∷ r.references ∷ []
+run_values (Err r) = []
 
 abbrev pub run_numbers : RunAnswer → Told
-run_numbers a = record { number = run_number a; values = run_values a }
+run_numbers a = record { number = answer_number a; values = run_values a }
 
 -- a read out's is the character; where there is none it has no value
 abbrev pub sent_values : SentAnswer → List ℕ
-sent_values (Sent w) = w ∷ []
-sent_values NoneSent = []
-sent_values (SentRefused r) = []
+sent_values (Ok (Some w)) = w ∷ []
+sent_values (Ok None) = []
+sent_values (Err r) = []
 
 abbrev pub sent_numbers : SentAnswer → Told
-sent_numbers a = record { number = sent_number a; values = sent_values a }
+sent_numbers a = record { number = answer_number a; values = sent_values a }
 
 -- what is told after tests in order, each with the number that it refuses with: that of the first that holds, else 0
 -- and the values

@@ -11,10 +11,8 @@ use Rattle.isa.specs.declared.device.DeviceInput.{DeviceInput}
 use Rattle.isa.specs.declared.device.DeviceInput.TheVariants.{Raise, Tick, Typed, ReadOut}
 use Rattle.isa.specs.declared.answer.Reason.{Reason}
 use Rattle.isa.specs.declared.answer.Reason.TheVariants.{Stopped, Level, Spent, Interrupt}
-use Rattle.isa.specs.declared.answer.RunAnswer.{RunAnswer}
-use Rattle.isa.specs.declared.answer.RunAnswer.TheVariants.{Ran, Refused as RunRefused}
-use Rattle.isa.specs.declared.answer.Answer.{Answer}
-use Rattle.isa.specs.declared.answer.Answer.TheVariants.{Done, Refused}
+use Rattle.std.specs.declared.result.Result.TheVariants.{Ok, Err}
+use Rattle.isa.specs.Answers.{Answer, RunAnswer}
 
 -- an input, and the number of steps after which it is handed in
 pub record Given : Type 0 where
@@ -32,14 +30,14 @@ abbrev pub input_done : StateCall → InputCall
 input_done r = record { told = answer_number r.answer; state = r.state }
 
 -- Each input is the operation of that name. The start was tested, and its sizes and ranges hold after every step and
--- input (crates/ranges), so that 1 and 2 do not come up: the test that they stand for is passed, `Done`. A refused
+-- input (crates/ranges), so that 1 and 2 do not come up: the test that they stand for is passed, `Ok tt`. A refused
 -- input changes nothing. Told is 0 or the refusal; of a read out the character, or 256 for none.
 abbrev pub input_call : DeviceInput → State → InputCall
-input_call (Raise l) s = input_done (raise_call_by (level_answer l Done) s l)
-input_call Tick s = input_done (tick_call_by Done s)
-input_call (Typed w) s = input_done (type_call_by (unread_answer s Done) s w)
+input_call (Raise l) s = input_done (raise_call_by (level_answer l (Ok tt)) s l)
+input_call Tick s = input_done (tick_call_by (Ok tt) s)
+input_call (Typed w) s = input_done (type_call_by (unread_answer s (Ok tt)) s w)
 input_call ReadOut s =
-    let r = read_out_call_by Done s in record { told = character_sent_of r.answer; state = r.state }
+    let r = read_out_call_by (Ok tt) s in record { told = character_sent_of r.answer; state = r.state }
 
 -- ---- the run
 
@@ -92,7 +90,7 @@ pub record InputRunCall : Type 0 where
 
 abbrev pub input_ran_call : InputRun → InputRunCall
 input_ran_call r = record {
-  answer = Ran r.run.steps r.run.reason r.run.references;
+  answer = Ok (record { steps = r.run.steps; reason = r.run.reason; references = r.run.references });
   told = r.told;
   state = r.run.state;
   memory = r.run.memory;
@@ -100,9 +98,9 @@ input_ran_call r = record {
 }
 
 abbrev pub input_run_call_by : Answer → ℕ → List Given → State → List ℕ → List ℕ → InputRunCall
-input_run_call_by Done n gs s m t = input_ran_call (input_run_from n gs 0 s m t)
-input_run_call_by (Refused r) n gs s m t =
-    record { answer = RunRefused r; told = []; state = s; memory = m; tables = t }
+input_run_call_by (Ok _) n gs s m t = input_ran_call (input_run_from n gs 0 s m t)
+input_run_call_by (Err r) n gs s m t =
+    record { answer = Err r; told = []; state = s; memory = m; tables = t }
 
 -- refusals 1 and 2, as of every run
 unfoldable pub input_run_call : ℕ → List Given → State → List ℕ → List ℕ → InputRunCall

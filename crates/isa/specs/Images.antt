@@ -5,8 +5,9 @@ use Rattle.isa.specs.Devices.{device_count, device_words}
 use Rattle.isa.specs.Machine.{word_range, register_words, control_count, table_words, control_words, state_of}
 use Rattle.isa.specs.declared.machine.State.{State}
 use Rattle.isa.specs.declared.answer.Refusal.TheVariants.{Kind, Target, Overlap}
-use Rattle.isa.specs.declared.answer.Answer.{Answer}
-use Rattle.isa.specs.declared.answer.Answer.TheVariants.{Done, Refused}
+use Rattle.std.specs.declared.result.Result.TheVariants.{Ok, Err}
+use Rattle.std.specs.declared.result.Result.{Result}
+use Rattle.isa.specs.declared.answer.Refusal.{Refusal}
 
 -- "An entry is five words: kind .. start (two words, high first), length (two)."
 pub record ImageEntry : Type 0 where
@@ -92,12 +93,12 @@ meets_any a (b ∷ bs) = meets a b || meets_any a bs
 
 -- "for each entry 5, unknown kind, 6, start plus length beyond its target's size, 7, covering a word already named":
 -- the entries after those seen, one by one (ruling 26)
-abbrev pub entries_answer : ℕ → List ImageEntry → List ImageEntry → Answer
-entries_answer words seen [] = Done
+abbrev pub entries_answer : ℕ → List ImageEntry → List ImageEntry → Result (Unit {0}) Refusal
+entries_answer words seen [] = Ok tt
 entries_answer words seen (e ∷ es) =
-    cond (not (known_kind e.kind)) (Refused Kind)
-    (cond (nat_lt (size_of words e.kind) (e.start + e.count)) (Refused Target)
-    (cond (meets_any e seen) (Refused Overlap) (entries_answer words (e ∷ seen) es)))
+    cond (not (known_kind e.kind)) (Err Kind)
+    (cond (nat_lt (size_of words e.kind) (e.start + e.count)) (Err Target)
+    (cond (meets_any e seen) (Err Overlap) (entries_answer words (e ∷ seen) es)))
 
 -- the words that the entries name in all
 abbrev pub named_words : List ImageEntry → ℕ

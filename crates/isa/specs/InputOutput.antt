@@ -1,7 +1,7 @@
 -- Document 02, card 1: "Fit the two devices of source document 000, section 6.9, with their registers, levels and
 -- identification codes, so that IOX, IOXT and IDENT reach them". Sentences quoted here are of that section where
 -- nothing else is said.
-use Rattle.std.specs.Prelude.{ℕ, ◌+◌, ◌-◌, ◌*◌, ◌/◌, ◌%◌, ◌^◌, Bool, true, false, cond, ◌&&◌, List, [], ◌∷◌, ◌==◌}
+use Rattle.std.specs.Prelude.{ℕ, ◌+◌, ◌-◌, ◌*◌, ◌/◌, ◌%◌, ◌^◌, Bool, cond, ◌&&◌, Option, Some, None, List, [], ◌∷◌, ◌==◌}
 use Rattle.isa.specs.Machine.{bit, with_bit, flag_of, reg, with_reg, with_file, with_control}
 use Rattle.isa.specs.Devices.{length_range}
 use Rattle.isa.specs.System.{with_devices}
@@ -17,9 +17,8 @@ use Rattle.isa.specs.declared.device.DeviceRegister.TheVariants.{ClockData, Cloc
 use Rattle.isa.specs.declared.device.DeviceRegister.TheVariants.{ClockControl, InputData, InputNothing}
 use Rattle.isa.specs.declared.device.DeviceRegister.TheVariants.{InputStatus, InputControl, OutputNothing}
 use Rattle.isa.specs.declared.device.DeviceRegister.TheVariants.{OutputData, OutputStatus, OutputControl}
-use Rattle.isa.specs.declared.device.DeviceRegister.TheVariants.{NoRegister}
 use Rattle.isa.specs.declared.device.Line.{Line}
-use Rattle.isa.specs.declared.device.Line.TheVariants.{OutputLine, InputLine, ClockLine, NoLine}
+use Rattle.isa.specs.declared.device.Line.TheVariants.{OutputLine, InputLine, ClockLine}
 
 -- ---- addresses, levels, codes
 
@@ -41,28 +40,13 @@ register_rows =
     ∷ (0o307, OutputControl)
     ∷ []
 
-abbrev pub register_in : List (ℕ × DeviceRegister) → ℕ → DeviceRegister
-register_in [] a = NoRegister
-register_in (r ∷ rs) a = cond (a == r.0) r.1 (register_in rs a)
-
-unfoldable pub register_of : ℕ → DeviceRegister
-register_of a = register_in register_rows a
-
 -- "interrupt 7 stays for all other addresses"
-abbrev pub answers : DeviceRegister → Bool
-answers ClockData = true
-answers ClockCounter = true
-answers ClockStatus = true
-answers ClockControl = true
-answers InputData = true
-answers InputNothing = true
-answers InputStatus = true
-answers InputControl = true
-answers OutputNothing = true
-answers OutputData = true
-answers OutputStatus = true
-answers OutputControl = true
-answers NoRegister = false
+abbrev pub register_in : List (ℕ × DeviceRegister) → ℕ → Option DeviceRegister
+register_in [] a = None
+register_in (r ∷ rs) a = cond (a == r.0) (Some r.1) (register_in rs a)
+
+unfoldable pub register_of : ℕ → Option DeviceRegister
+register_of a = register_in register_rows a
 
 -- ruling 30, by document 000's 6.7.2 and appendices B.1 and C: "input on level 12, output on level 10", the clock on
 -- level 13, "ident code 1" of each
@@ -227,24 +211,25 @@ exchanged c OutputData = with_control c (character_sent c.control (reg c.file A)
 exchanged c OutputStatus =
     with_a c (ready_status c.control.devices.output.enabled (output_ready c.control.devices.output))
 exchanged c OutputControl = with_control c (output_controlled c.control (reg c.file A))
-exchanged c NoRegister = c
 
 -- ---- IDENT
 
 -- Document 002, IDENT, its table of level, mnemonic and code: "10 PL10 04", "11 PL11 11", "12 PL12 22", "13 PL13 43";
 -- no device is on level 11. Ruling 34: with every other code, 7.
-unfoldable pub line_of : ℕ → Line
-line_of n = cond (n == 0o04) OutputLine (cond (n == 0o22) InputLine (cond (n == 0o43) ClockLine NoLine))
+unfoldable pub line_of : ℕ → Option Line
+line_of n =
+    cond (n == 0o04) (Some OutputLine) (cond (n == 0o22) (Some InputLine) (cond (n == 0o43) (Some ClockLine) None))
 
-abbrev pub flip_flop : Devices → Line → ℕ
-flip_flop d OutputLine = d.output.asks
-flip_flop d InputLine = d.input.asks
-flip_flop d ClockLine = d.clock.asks
-flip_flop d NoLine = 0
+-- 0 where the code names no line
+abbrev pub flip_flop : Devices → Option Line → ℕ
+flip_flop d (Some OutputLine) = d.output.asks
+flip_flop d (Some InputLine) = d.input.asks
+flip_flop d (Some ClockLine) = d.clock.asks
+flip_flop d None = 0
 
 -- document 000, 6.7.4: the device's interrupt flip-flop is cleared; ruling 33: by IDENT alone
-abbrev pub without_asking : Devices → Line → Devices
-without_asking d OutputLine =
+abbrev pub without_asking : Devices → Option Line → Devices
+without_asking d (Some OutputLine) =
     with_output d
     (record {
       enabled = d.output.enabled;
@@ -252,7 +237,7 @@ without_asking d OutputLine =
       asks = 0;
       character = d.output.character;
     })
-without_asking d InputLine =
+without_asking d (Some InputLine) =
     with_input d
     (record {
       enabled = d.input.enabled;
@@ -261,11 +246,11 @@ without_asking d InputLine =
       character = d.input.character;
       length = d.input.length;
     })
-without_asking d ClockLine = with_clock d (record { enabled = d.clock.enabled; ready = d.clock.ready; asks = 0 })
-without_asking d NoLine = d
+without_asking d (Some ClockLine) = with_clock d (record { enabled = d.clock.enabled; ready = d.clock.ready; asks = 0 })
+without_asking d None = d
 
 -- ruling 34: "A becomes 1, the flip-flop 0, nothing else"; ruling 35: IDENT leaves PID
-abbrev pub identified : Core → Line → Core
+abbrev pub identified : Core → Option Line → Core
 identified c i =
     with_control (with_a c ident_code)
     (with_devices c.control c.control.pid (without_asking c.control.devices i))

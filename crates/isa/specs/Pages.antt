@@ -1,5 +1,9 @@
 -- Document 01, "Pages", and document 02, card 4: the two forms of an entry.
-use Rattle.std.specs.Prelude.{ℕ, suc, ◌+◌, ◌*◌, ◌/◌, ◌%◌, Bool, cond, not, ◌&&◌, ◌||◌, List, [], ◌∷◌, drop, ◌==◌, nat_le, nat_lt, slice_index, slice_set}
+use Rattle.std.specs.Prelude.{ℕ, suc, ◌+◌, ◌*◌, ◌/◌, ◌%◌, Bool, true, false, cond, not, ◌&&◌, ◌||◌, List, [], ◌∷◌, drop, ◌==◌, nat_le, nat_lt, slice_index, slice_set}
+use Rattle.std.specs.declared.option.Option.{Option}
+use Rattle.std.specs.declared.option.Option.TheVariants.{None, Some}
+use Rattle.std.specs.declared.result.Result.{Result}
+use Rattle.std.specs.declared.result.Result.TheVariants.{Ok, Err}
 use Rattle.isa.specs.Machine.{page_words, table_words, entries_in_table, slot_count, interrupt_protection}
 use Rattle.isa.specs.Machine.{interrupt_page_fault, interrupt_out_of_range, bit, reg, flag_ptm, ring_of, normal_table_of}
 use Rattle.isa.specs.Machine.{alternate_table_of, with_pcr}
@@ -10,9 +14,10 @@ use Rattle.isa.specs.declared.access.AccessKind.{AccessKind}
 use Rattle.isa.specs.declared.access.AccessKind.TheVariants.{Fetch, Read, Write, Indirect}
 use Rattle.isa.specs.declared.access.Rights.{Rights}
 use Rattle.isa.specs.declared.access.Triple.{Triple}
-use Rattle.isa.specs.declared.access.Translation.{Translation}
-use Rattle.isa.specs.declared.access.Translation.TheVariants.{NoAccess, Load, Store, LoadTable, StoreTable}
-use Rattle.isa.specs.declared.access.Translation.TheVariants.{Protection, PageFault, OutOfRange}
+use Rattle.isa.specs.declared.access.Place.{Place}
+use Rattle.isa.specs.declared.access.Place.TheVariants.{Load, Store, LoadTable, StoreTable}
+use Rattle.isa.specs.declared.access.Fault.{Fault}
+use Rattle.isa.specs.declared.access.Fault.TheVariants.{Protection, PageFault, OutOfRange}
 
 -- "Entry: bit 15 write, 14 read, 13 fetch permitted, 12 WIP, 11 PGU, 10-9 ring, 8-0 physical page."
 pub record Entry : Type 0 where
@@ -93,29 +98,30 @@ abbrev pub paging_status : AccessKind → ℕ → ℕ → ℕ
 paging_status k missing slot = fetch_bit k + missing + slot
 
 -- where a passed access goes: to load or to store a word of memory, or of the page tables
-abbrev pub in_memory : AccessKind → ℕ → Translation
+abbrev pub in_memory : AccessKind → ℕ → Place
 in_memory Fetch p = Load p
 in_memory Read p = Load p
 in_memory Write p = Store p
 in_memory Indirect p = Load p
 
-abbrev pub in_tables : AccessKind → ℕ → Translation
+abbrev pub in_tables : AccessKind → ℕ → Place
 in_tables Fetch i = LoadTable i
 in_tables Read i = LoadTable i
 in_tables Write i = StoreTable i
 in_tables Indirect i = LoadTable i
 
 -- "page beyond the memory, interrupt 9"; words is the size of the memory
-unfoldable pub within_memory : ℕ → AccessKind → ℕ → Translation
-within_memory words k p = cond (nat_lt p words) (in_memory k p) OutOfRange
+unfoldable pub within_memory : ℕ → AccessKind → ℕ → Result Place Fault
+within_memory words k p = cond (nat_lt p words) (Ok (in_memory k p)) (Err OutOfRange)
 
 -- "Tests in order: all three permits 0, interrupt 3; the needed permit missing .. interrupt 2; entry's ring above the
 -- user's, interrupt 2; page beyond the memory, interrupt 9."
-unfoldable pub judged : Entry → ℕ → ℕ → ℕ → AccessKind → ℕ → Translation
+unfoldable pub judged : Entry → ℕ → ℕ → ℕ → AccessKind → ℕ → Result Place Fault
 judged e slot words ring k a =
-    cond (not (some_permit e)) (PageFault (paging_status k missing_bit slot))
-    (cond (not (needed e k)) (Protection (paging_status k missing_bit slot))
-    (cond (not (ring_allows e ring)) (Protection (paging_status k 0 slot)) (within_memory words k (physical e a))))
+    cond (not (some_permit e)) (Err (PageFault (paging_status k missing_bit slot)))
+    (cond (not (needed e k)) (Err (Protection (paging_status k missing_bit slot)))
+    (cond (not (ring_allows e ring)) (Err (Protection (paging_status k 0 slot)))
+    (within_memory words k (physical e a))))
 
 -- the table that an access goes by
 abbrev pub table_of : Rights → Bool → ℕ
@@ -136,31 +142,21 @@ in_window r a = nat_le (window_start r.extended) a && (not r.paging || r.ring ==
 
 -- One access, of a machine with so many words of memory. "With paging off all is permitted and addresses are physical."
 -- From the window's first address on, `a % window_words` is the place in the tables.
-unfoldable pub translate : List ℕ → ℕ → Rights → Access → Translation
+unfoldable pub translate : List ℕ → ℕ → Rights → Access → Result Place Fault
 translate t words r x =
     let a = x.address in
     let i = slot_of (table_of r x.alternate) a in
-    cond (in_window r a) (in_tables x.kind (a % window_words r.extended))
+    cond (in_window r a) (Ok (in_tables x.kind (a % window_words r.extended)))
     (cond r.paging (judged (entry_at r.extended t i) i words r.ring x.kind a)
     (within_memory words x.kind a))
 
--- the number of the interrupt that an access gives, 0 where it passed; and PGS after it (ruling 2: 9 leaves it)
-abbrev pub fault_of : Translation → ℕ
-fault_of NoAccess = 0
-fault_of (Load p) = 0
-fault_of (Store p) = 0
-fault_of (LoadTable i) = 0
-fault_of (StoreTable i) = 0
-fault_of (Protection g) = interrupt_protection
-fault_of (PageFault g) = interrupt_page_fault
-fault_of OutOfRange = interrupt_out_of_range
+-- the number of the interrupt that a failed access gives; and PGS after it (ruling 2: 9 leaves it)
+abbrev pub fault_number : Fault → ℕ
+fault_number (Protection g) = interrupt_protection
+fault_number (PageFault g) = interrupt_page_fault
+fault_number OutOfRange = interrupt_out_of_range
 
-abbrev pub pgs_after : ℕ → Translation → ℕ
-pgs_after old NoAccess = old
-pgs_after old (Load p) = old
-pgs_after old (Store p) = old
-pgs_after old (LoadTable i) = old
-pgs_after old (StoreTable i) = old
+abbrev pub pgs_after : ℕ → Fault → ℕ
 pgs_after old (Protection g) = g
 pgs_after old (PageFault g) = g
 pgs_after old OutOfRange = old
@@ -170,18 +166,14 @@ abbrev pub first_status : ℕ → ℕ → ℕ → ℕ
 first_status held old g = cond (held == 1) old g
 
 -- "Whether it is held is control word 26": from the first 2 or 3 on; ruling 41: 9 touches neither
-abbrev pub held_after : ℕ → Translation → ℕ
-held_after held NoAccess = held
-held_after held (Load p) = held
-held_after held (Store p) = held
-held_after held (LoadTable i) = held
-held_after held (StoreTable i) = held
+abbrev pub held_after : ℕ → Fault → ℕ
 held_after held (Protection g) = 1
 held_after held (PageFault g) = 1
 held_after held OutOfRange = held
 
-abbrev pub passes : Translation → Bool
-passes x = fault_of x == 0
+abbrev pub passes : Result Place Fault → Bool
+passes (Ok p) = true
+passes (Err f) = false
 
 -- "A passed access sets PGU, a passed write also WIP; a failed one neither."
 abbrev pub mark_of : AccessKind → ℕ → ℕ
@@ -201,38 +193,43 @@ marked t words r x =
     cond (r.paging && not (in_window r x.address) && passes (translate t words r x))
     (with_mark r.extended t i x.kind) t
 
--- What a list of accesses leaves: the tables with their marks, where each goes, the first fault, or NoAccess if all
--- passed, and how many were made. Document 02, card 7: "tested accesses of a faulting instruction count up to and with
--- the failing one."
+-- What a list of accesses leaves: the tables with their marks, where each goes, the first fault, if one failed, and
+-- how many were made. Document 02, card 7: "tested accesses of a faulting instruction count up to and with the failing
+-- one."
 pub record Tested : Type 0 where
   pub tables : List ℕ
-  pub places : List Translation
-  pub fault : Translation
+  pub places : List Place
+  pub fault : Option Fault
   pub made : ℕ
 
-abbrev pub also_at : Translation → Tested → Tested
-also_at x r = record { tables = r.tables; places = x ∷ r.places; fault = r.fault; made = suc r.made }
+-- .. of no access
+abbrev pub none_tested : List ℕ → Tested
+none_tested t = record { tables = t; places = []; fault = None; made = 0 }
+
+-- .. of one and of those after it: r is what they leave where it passed, and t the tables where it failed
+abbrev pub tested_first : List ℕ → Result Place Fault → Tested → Tested
+tested_first t (Ok p) r = record { tables = r.tables; places = p ∷ r.places; fault = r.fault; made = suc r.made }
+tested_first t (Err f) r = record { tables = t; places = []; fault = Some f; made = 1 }
 
 -- "then accesses in order, all of them tested before the first store": one by one, up to the first that fails. Ruling
 -- 1: the marks of those that passed stay. Ruling 5: later ones see the marks of earlier ones.
 abbrev pub test_all : List ℕ → ℕ → Rights → List Access → Tested
-test_all t words r [] = record { tables = t; places = []; fault = NoAccess; made = 0 }
-test_all t words r (x ∷ xs) =
-    cond (passes (translate t words r x)) (also_at (translate t words r x) (test_all (marked t words r x) words r xs))
-    (record { tables = t; places = []; fault = translate t words r x; made = 1 })
+test_all t words r [] = none_tested t
+test_all t words r (x ∷ xs) = tested_first t (translate t words r x) (test_all (marked t words r x) words r xs)
+
+-- what follows: y where all passed; what g makes of the fault where one failed
+abbrev pub after_test : {A : Type 0} → Option Fault → A → (Fault → A) → A
+after_test None y g = y
+after_test (Some f) y g = g f
 
 -- the words at the places; 0 where a place is not one to load from, which no completion looks at
-abbrev pub word_at : List ℕ → List ℕ → Translation → ℕ
-word_at m t NoAccess = 0
+abbrev pub word_at : List ℕ → List ℕ → Place → ℕ
 word_at m t (Load p) = slice_index m p
 word_at m t (Store p) = 0
 word_at m t (LoadTable i) = slice_index t i
 word_at m t (StoreTable i) = 0
-word_at m t (Protection g) = 0
-word_at m t (PageFault g) = 0
-word_at m t OutOfRange = 0
 
-abbrev pub words_at : List ℕ → List ℕ → List Translation → List ℕ
+abbrev pub words_at : List ℕ → List ℕ → List Place → List ℕ
 words_at m t [] = []
 words_at m t (x ∷ xs) = word_at m t x ∷ words_at m t xs
 
@@ -249,16 +246,12 @@ lent m t = record { memory = m; tables = t }
 abbrev pub words_of : Triple → List ℕ
 words_of w = w.a ∷ w.b ∷ w.c ∷ []
 
-abbrev pub store_all : List ℕ → List ℕ → List Translation → List ℕ → Lent
+abbrev pub store_all : List ℕ → List ℕ → List Place → List ℕ → Lent
 store_all m t [] ws = lent m t
-store_all m t (NoAccess ∷ xs) ws = store_all m t xs ws
 store_all m t (Load p ∷ xs) ws = store_all m t xs ws
 store_all m t (Store p ∷ xs) ws = store_all (slice_set m p (slice_index ws 0)) t xs (drop 1 ws)
 store_all m t (LoadTable i ∷ xs) ws = store_all m t xs ws
 store_all m t (StoreTable i ∷ xs) ws = store_all m (slice_set t i (slice_index ws 0)) xs (drop 1 ws)
-store_all m t (Protection g ∷ xs) ws = store_all m t xs ws
-store_all m t (PageFault g ∷ xs) ws = store_all m t xs ws
-store_all m t (OutOfRange ∷ xs) ws = store_all m t xs ws
 
 -- What the running level's accesses are judged by. "With PTM 0 all use the normal table." The extended flag tells the
 -- form of the entries.

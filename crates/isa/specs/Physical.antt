@@ -1,11 +1,13 @@
 -- Document 02, card 4: "the seven instructions that reach physical memory by T and X", LDATX to STDTX.
-use Rattle.std.specs.Prelude.{ℕ, ◌+◌, ◌*◌, ◌%◌, Bool, true, false, cond, ◌&&◌, bit_or, nat_le, nat_lt}
+use Rattle.std.specs.Prelude.{ℕ, ◌+◌, ◌*◌, ◌%◌, Bool, true, false, cond, ◌&&◌, List, [], ◌∷◌, bit_or, nat_le, nat_lt}
+use Rattle.std.specs.declared.result.Result.{Result}
+use Rattle.std.specs.declared.result.Result.TheVariants.{Ok}
 use Rattle.isa.specs.Machine.{word_range, reg, with_reg}
-use Rattle.isa.specs.Pages.{window_start, window_words, in_tables, within_memory, passes}
+use Rattle.isa.specs.Pages.{window_start, window_words, in_tables, within_memory, Tested, none_tested, tested_first}
 use Rattle.isa.specs.declared.access.AccessKind.{AccessKind}
 use Rattle.isa.specs.declared.access.AccessKind.TheVariants.{Read, Write}
-use Rattle.isa.specs.declared.access.Translation.{Translation}
-use Rattle.isa.specs.declared.access.Translation.TheVariants.{NoAccess}
+use Rattle.isa.specs.declared.access.Place.{Place}
+use Rattle.isa.specs.declared.access.Fault.{Fault}
 use Rattle.isa.specs.declared.access.Triple.{Triple}
 use Rattle.isa.specs.declared.instruction.Transfer.{Transfer}
 use Rattle.isa.specs.declared.instruction.Transfer.TheVariants.{Ldatx, Ldxtx, Lddtx, Ldbtx, Statx, Stztx, Stdtx}
@@ -20,9 +22,9 @@ transfer_address f d = reg f T * word_range + reg f X + d
 
 -- "paging on or off, page tables included where the mode has them; past the memory they give 9": of the physical
 -- address p, with so many words of memory. Ruling R3: on every ring, with no entry looked up.
-unfoldable pub physical_place : Bool → ℕ → AccessKind → ℕ → Translation
+unfoldable pub physical_place : Bool → ℕ → AccessKind → ℕ → Result Place Fault
 physical_place form words k p =
-    cond (nat_le (window_start form) p && nat_lt p word_range) (in_tables k (p % window_words form))
+    cond (nat_le (window_start form) p && nat_lt p word_range) (Ok (in_tables k (p % window_words form)))
     (within_memory words k p)
 
 -- ---- ruling R1's table
@@ -59,7 +61,8 @@ transfer_stores Statx f = triple (reg f A) 0
 transfer_stores Stztx f = triple 0 0
 transfer_stores Stdtx f = triple (reg f A) (reg f D)
 
--- the registers afterwards; w is the word at p, v the word at p + 1. LDBTX: "177000 OR (2w mod 65,536)".
+-- the registers afterwards; w is the word at p, v the word at p + 1 where there are two. LDBTX: "177000 OR (2w mod
+-- 65,536)".
 abbrev pub transferred : Transfer → File → ℕ → ℕ → File
 transferred Ldatx f w v = with_reg f A w
 transferred Ldxtx f w v = with_reg f X w
@@ -69,20 +72,14 @@ transferred Statx f w v = f
 transferred Stztx f w v = f
 transferred Stdtx f w v = f
 
--- ---- the places of an instruction
+-- ---- the accesses of an instruction
 
--- of the word at p, and of the next if there are two
-abbrev pub first_place : Bool → ℕ → Transfer → ℕ → Translation
-first_place form words o p = physical_place form words (transfer_kind o) p
+-- "p, then p + 1" (ruling R4), if there are two words; "1, LDDTX and STDTX 2" (ruling 7.3)
+abbrev pub word_addresses : Transfer → ℕ → List ℕ
+word_addresses o p = p ∷ cond (two_words o) ((p + 1) ∷ []) []
 
-abbrev pub second_place : Bool → ℕ → Transfer → ℕ → Translation
-second_place form words o p = cond (two_words o) (physical_place form words (transfer_kind o) (p + 1)) NoAccess
-
--- the accesses made, of which the first went to the place x: "1, LDDTX and STDTX 2" (ruling 7.3), up to and with a
--- failing one
-abbrev pub transfer_made : Transfer → Translation → ℕ
-transfer_made o x = cond (passes x && two_words o) 2 1
-
--- "p, then p + 1" (ruling R4): the first that fails; where none does, it is one that passes
-abbrev pub first_fault : Translation → Translation → Translation
-first_fault x y = cond (passes x) y x
+-- one by one, up to and with the first that fails; they mark nothing
+abbrev pub test_physical : List ℕ → Bool → ℕ → AccessKind → List ℕ → Tested
+test_physical t form words k [] = none_tested t
+test_physical t form words k (p ∷ ps) =
+    tested_first t (physical_place form words k p) (test_physical t form words k ps)

@@ -1,9 +1,14 @@
 -- Document 02, card 7: the memory references of a step, in order, and of a run; what is proved of their number.
 use Rattle.std.specs.Prelude.{◌≡◌, ℕ, zero, suc, ◌+◌, ◌-◌, ◌%◌, ◌≤◌, Bool, true, cond, not, ◌&&◌, ◌||◌, List, [], ◌∷◌, ◌++◌, length, ◌==◌, nat_lt, slice_index_or}
+use Rattle.std.specs.declared.option.Option.{Option}
+use Rattle.std.specs.declared.option.Option.TheVariants.{None, Some}
+use Rattle.std.specs.declared.result.Result.{Result}
+use Rattle.std.specs.declared.result.Result.TheVariants.{Ok, Err}
 use Rattle.isa.specs.Machine.{reg, next_core, core_of, with_core}
 use Rattle.isa.specs.Instructions.{indirect_request, request}
-use Rattle.isa.specs.Pages.{slot_of, entry_at, translate, marked, test_all, passes, word_at, words_at, rights_of}
-use Rattle.isa.specs.Physical.{transfer_address, transfer_kind, two_words, first_place}
+use Rattle.isa.specs.Pages.{slot_of, entry_at, translate, marked, test_all, after_test, passes, word_at, words_at}
+use Rattle.isa.specs.Pages.{rights_of}
+use Rattle.isa.specs.Physical.{transfer_address, transfer_kind, two_words, physical_place}
 use Rattle.isa.specs.Step.{Part, physical_address, privileged, instruction_of, after_fetch, fetch_of, step_in}
 use Rattle.isa.specs.Step.{block_request, change_due, is_stopped, step}
 use Rattle.isa.specs.Run.{sum_range, run_from}
@@ -24,8 +29,10 @@ use Rattle.isa.specs.declared.access.Access.{Access}
 use Rattle.isa.specs.declared.access.AccessKind.{AccessKind}
 use Rattle.isa.specs.declared.access.AccessKind.TheVariants.{Read, Write}
 use Rattle.isa.specs.declared.access.Rights.{Rights}
+use Rattle.isa.specs.declared.access.Place.{Place}
+use Rattle.isa.specs.declared.access.Fault.{Fault}
 use Rattle.isa.specs.declared.answer.Far.{Far}
-use Rattle.isa.specs.declared.answer.Far.TheVariants.{Nothing, Call, ReadRegister, WriteRegister, ReadPcr}
+use Rattle.isa.specs.declared.answer.Far.TheVariants.{Call, ReadRegister, WriteRegister, ReadPcr}
 use Rattle.isa.specs.declared.answer.Far.TheVariants.{WritePcr, StoreBlock, LoadBlock}
 
 -- ---- what a reference is
@@ -56,14 +63,14 @@ user_references c m t u =
     let r = test_all t (length m) (rights_of c) xs in
     let i = slice_index_or (words_at m r.tables r.places) 0 0 in
     accesses_made t (length m) (rights_of c) xs
-    ++ cond (passes r.fault) (operand_references c m r.tables u i) []
+    ++ after_test r.fault (operand_references c m r.tables u i) (λ x. [])
 
 -- ruling 7.3: "Card 4's seven: 1, LDDTX and STDTX 2, beside the fetch; up to and with a failing one"
 unfoldable pub transfer_references : Core → List ℕ → Transfer → ℕ → List Reference
 transfer_references c m o d =
     let k = transfer_kind o in
     let p = transfer_address c.file d in
-    let x = first_place (c.control.extended == 1) (length m) o p in
+    let x = physical_place (c.control.extended == 1) (length m) k p in
     physical_at k p ∷ cond (passes x && two_words o) (physical_at k (p + 1) ∷ []) []
 
 -- Ruling 7.2: EXAM and DEPO one, also past the memory; 7.3: "Device registers none". SRB and LRB leave theirs to be
@@ -93,26 +100,32 @@ instruction_references c m t Illegal = []
 
 -- ---- of a step
 
+-- what the instruction adds, if the fetch passed
+abbrev pub fetched_references : Core → List ℕ → List ℕ → ℕ → Result Place Fault → List Reference
+fetched_references c m t ring (Ok p) =
+    instruction_references (after_fetch c ring p) m t (instruction_of c (word_at m t p))
+fetched_references c m t ring (Err x) = []
+
 -- of the running level: the word fetched and, if that passed, what the instruction adds
 unfoldable pub level_references : Core → List ℕ → List ℕ → List Reference
 level_references c m t =
     let r = rights_of c in
     let ring = (entry_at r.extended t (slot_of r.normal (reg c.file P))).ring in
     let x = translate t (length m) r (fetch_of c) in
-    let u = marked t (length m) r (fetch_of c) in
-    let i = instruction_of c (word_at m u x) in
-    virtual_at (fetch_of c) ∷ cond (passes x) (instruction_references (after_fetch c ring x) m u i) []
+    virtual_at (fetch_of c) ∷ fetched_references c m (marked t (length m) r (fetch_of c)) ring x
 
 -- of what the level left to be done: the words of a register block
-abbrev pub far_references : State → List ℕ → List ℕ → Far → List Reference
-far_references s m t Nothing = []
-far_references s m t (Call w) = []
-far_references s m t (ReadRegister l r) = []
-far_references s m t (WriteRegister l r) = []
-far_references s m t ReadPcr = []
-far_references s m t WritePcr = []
-far_references s m t (StoreBlock l) = accesses_made t (length m) (rights_of (core_of s)) (block_request Write s)
-far_references s m t (LoadBlock l) = accesses_made t (length m) (rights_of (core_of s)) (block_request Read s)
+abbrev pub far_references : State → List ℕ → List ℕ → Option Far → List Reference
+far_references s m t None = []
+far_references s m t (Some (Call w)) = []
+far_references s m t (Some (ReadRegister l r)) = []
+far_references s m t (Some (WriteRegister l r)) = []
+far_references s m t (Some ReadPcr) = []
+far_references s m t (Some WritePcr) = []
+far_references s m t (Some (StoreBlock l)) =
+    accesses_made t (length m) (rights_of (core_of s)) (block_request Write s)
+far_references s m t (Some (LoadBlock l)) =
+    accesses_made t (length m) (rights_of (core_of s)) (block_request Read s)
 
 abbrev pub left_references : State → Part → List Reference
 left_references s r = far_references (with_core s r.near.core) r.memory r.tables r.near.far

@@ -1,6 +1,10 @@
 -- Document 01, "One step": stages over the running level, each taking what the one before found, and their packing into
 -- a state.
 use Rattle.std.specs.Prelude.{ℕ, ◌+◌, ◌*◌, ◌%◌, Bool, true, false, cond, not, ◌&&◌, ◌||◌, List, [], ◌∷◌, length, ◌==◌, bit_and, nat_eq, nat_le, nat_lt, slice_index, slice_set}
+use Rattle.std.specs.declared.option.Option.{Option}
+use Rattle.std.specs.declared.option.Option.TheVariants.{None, Some}
+use Rattle.std.specs.declared.result.Result.{Result}
+use Rattle.std.specs.declared.result.Result.TheVariants.{Ok, Err}
 use Rattle.isa.specs.Machine.{word_range, level_count, file_size, status_range, internal_level, interrupt_mon}
 use Rattle.isa.specs.Machine.{interrupt_illegal, interrupt_error, interrupt_privileged, interrupt_iox, bit, with_bit}
 use Rattle.isa.specs.Machine.{number, reg, with_reg, next, next_core, core_of, with_core, with_file, with_control}
@@ -10,11 +14,12 @@ use Rattle.isa.specs.Decode.{decode, four_of}
 use Rattle.isa.specs.Address.{sum, access}
 use Rattle.isa.specs.Instructions.{indirect_request, request, complete, operand, Completed}
 use Rattle.isa.specs.System.{highest_in, with_levels, with_pid, with_internal, with_paging_status, controlled}
-use Rattle.isa.specs.Pages.{slot_of, entry_at, translate, marked, test_all, Tested, fault_of, pgs_after, passes}
-use Rattle.isa.specs.Pages.{first_status, held_after, word_at, words_at, words_of, store_all, rights_of, lowered}
-use Rattle.isa.specs.Physical.{transfer_address, first_place, second_place, first_fault, transfer_stores}
-use Rattle.isa.specs.Physical.{transferred, transfer_made}
-use Rattle.isa.specs.InputOutput.{register_of, answers, exchanged, line_of, flip_flop, identified}
+use Rattle.isa.specs.Pages.{slot_of, entry_at, translate, marked, test_all, Tested, after_test, fault_number}
+use Rattle.isa.specs.Pages.{pgs_after, first_status, held_after, word_at, words_at, words_of, store_all, rights_of}
+use Rattle.isa.specs.Pages.{lowered}
+use Rattle.isa.specs.Physical.{transfer_address, transfer_kind, word_addresses, test_physical, transfer_stores}
+use Rattle.isa.specs.Physical.{transferred}
+use Rattle.isa.specs.InputOutput.{register_of, exchanged, line_of, flip_flop, identified}
 use Rattle.isa.specs.declared.machine.Control.{Control}
 use Rattle.isa.specs.declared.machine.Core.{Core}
 use Rattle.isa.specs.declared.machine.File.{File}
@@ -34,24 +39,25 @@ use Rattle.isa.specs.declared.device.Line.{Line}
 use Rattle.isa.specs.declared.access.Access.{Access}
 use Rattle.isa.specs.declared.access.AccessKind.{AccessKind}
 use Rattle.isa.specs.declared.access.AccessKind.TheVariants.{Fetch, Read, Write}
-use Rattle.isa.specs.declared.access.Translation.{Translation}
-use Rattle.isa.specs.declared.access.Translation.TheVariants.{NoAccess, Load, Store, LoadTable, StoreTable}
-use Rattle.isa.specs.declared.access.Translation.TheVariants.{Protection, PageFault, OutOfRange}
+use Rattle.isa.specs.declared.access.Place.{Place}
+use Rattle.isa.specs.declared.access.Place.TheVariants.{Load, Store, LoadTable, StoreTable}
+use Rattle.isa.specs.declared.access.Fault.{Fault}
+use Rattle.isa.specs.declared.access.Fault.TheVariants.{OutOfRange}
 use Rattle.isa.specs.declared.answer.Far.{Far}
-use Rattle.isa.specs.declared.answer.Far.TheVariants.{Nothing, Call, ReadRegister, WriteRegister, ReadPcr}
+use Rattle.isa.specs.declared.answer.Far.TheVariants.{Call, ReadRegister, WriteRegister, ReadPcr}
 use Rattle.isa.specs.declared.answer.Far.TheVariants.{WritePcr, StoreBlock, LoadBlock}
 use Rattle.isa.specs.declared.answer.Near.{Near}
 
 -- ---- what a step leaves
 
--- of the running level: its core, the interrupt given, what is left to be done and the references made; memory and
--- tables
+-- of the running level: its core, the interrupt given, what is left to be done, if anything, and the references made;
+-- memory and tables
 pub record Part : Type 0 where
   pub near : Near
   pub memory : List ℕ
   pub tables : List ℕ
 
-abbrev pub part : Core → ℕ → Far → List ℕ → List ℕ → Part
+abbrev pub part : Core → ℕ → Option Far → List ℕ → List ℕ → Part
 part c n far m t =
     record { near = record { core = c; gave = n; far = far; references = 0 }; memory = m; tables = t }
 
@@ -100,21 +106,21 @@ gives n c = with_control c (interrupted n c.control)
 -- An access that failed. "Interrupts 2 and 3 set PGS" reads since document 02, card 3: "PGS shall keep the first fault
 -- until TRA PGS is executed, and only then take another"; ruling 41: the first 2 or 3 sets PGS and holds it, and while
 -- it is held they change neither.
-abbrev pub with_pgs : Control → Translation → Control
+abbrev pub with_pgs : Control → Fault → Control
 with_pgs k x =
     with_paging_status k (first_status k.held k.pgs (pgs_after k.pgs x)) (held_after k.held x)
 
-unfoldable pub faulted : Translation → Core → Core
-faulted x c = gives (fault_of x) (with_control c (with_pgs c.control x))
+unfoldable pub faulted : Fault → Core → Core
+faulted x c = gives (fault_number x) (with_control c (with_pgs c.control x))
 
 -- "An instruction that faults .. stores nothing and changes no register but P. Fetch faults leave P; all others leave
 -- it one further." c is the core with P where it is left.
-abbrev pub failed : Core → Translation → List ℕ → List ℕ → Part
-failed c x m t = part (faulted x c) (fault_of x) Nothing m t
+abbrev pub failed : Core → Fault → List ℕ → List ℕ → Part
+failed c x m t = part (faulted x c) (fault_number x) None m t
 
 -- an interrupt of an instruction that is not by an access; c is the core with P one further
 abbrev pub trapped : ℕ → Core → List ℕ → List ℕ → Part
-trapped n c m t = part (gives n c) n Nothing m t
+trapped n c m t = part (gives n c) n None m t
 
 -- ---- an unprivileged instruction
 
@@ -125,18 +131,17 @@ error_of d = cond d.error interrupt_error 0
 abbrev pub finished_core : Core → Completed → Core
 finished_core c d = cond d.error (gives interrupt_error (with_file c d.file)) (with_file c d.file)
 
-unfoldable pub finished : Core → List ℕ → List ℕ → List Translation → Completed → Part
+unfoldable pub finished : Core → List ℕ → List ℕ → List Place → Completed → Part
 finished c m t places d =
     let r = store_all m t places d.stores in
-    part (finished_core c d) (error_of d) Nothing r.memory r.tables
+    part (finished_core c d) (error_of d) None r.memory r.tables
 
 -- all accesses were tested: read, complete, store; i is the indirect word
 unfoldable pub operands_tested : Core → List ℕ → User → ℕ → Tested → Part
 operands_tested c m u i r =
     counted r.made
-    (cond (passes r.fault)
-    (finished c m r.tables r.places (complete u c.file i (words_at m r.tables r.places)))
-    (failed (next_core c) r.fault m r.tables))
+    (after_test r.fault (finished c m r.tables r.places (complete u c.file i (words_at m r.tables r.places)))
+    (λ x. failed (next_core c) x m r.tables))
 
 unfoldable pub operands : Core → List ℕ → List ℕ → User → ℕ → Part
 operands c m t u i = operands_tested c m u i (test_all t (length m) (rights_of c) (request u c.file i))
@@ -146,8 +151,8 @@ operands c m t u i = operands_tested c m u i (test_all t (length m) (rights_of c
 unfoldable pub indirect_tested : Core → List ℕ → User → Tested → Part
 indirect_tested c m u r =
     counted r.made
-    (cond (passes r.fault) (operands c m r.tables u (slice_index (words_at m r.tables r.places) 0))
-    (failed (next_core c) r.fault m r.tables))
+    (after_test r.fault (operands c m r.tables u (slice_index (words_at m r.tables r.places) 0))
+    (λ x. failed (next_core c) x m r.tables))
 
 unfoldable pub user_stage : Core → List ℕ → List ℕ → User → Part
 user_stage c m t u = indirect_tested c m u (test_all t (length m) (rights_of c) (indirect_request u c.file))
@@ -164,49 +169,49 @@ unfoldable pub examined : Core → List ℕ → List ℕ → Part
 examined c m t =
     let p = physical_address c.file in
     counted 1
-    (cond (nat_lt p (length m)) (part (with_file c (with_reg c.file T (slice_index m p))) 0 Nothing m t)
+    (cond (nat_lt p (length m)) (part (with_file c (with_reg c.file T (slice_index m p))) 0 None m t)
     (failed c OutOfRange m t))
 
 unfoldable pub deposited : Core → List ℕ → List ℕ → Part
 deposited c m t =
     let p = physical_address c.file in
     counted 1
-    (cond (nat_lt p (length m)) (part c 0 Nothing (slice_set m p (reg c.file T)) t) (failed c OutOfRange m t))
+    (cond (nat_lt p (length m)) (part c 0 None (slice_set m p (reg c.file T)) t) (failed c OutOfRange m t))
 
--- LDATX to STDTX (document 02, card 4), of the displacement d: x is the place of the word, y that of the next where the
--- instruction has two. Ruling R4: both are tested before a load or a store takes effect.
+-- LDATX to STDTX (document 02, card 4), of the displacement d. Ruling R4: both words are tested before a load or a
+-- store takes effect. Without a second word v is 0, and nothing looks at it.
 unfoldable pub transfer_stage : Core → List ℕ → List ℕ → Transfer → ℕ → Part
 transfer_stage c m t o d =
     let f = c.file in
     let form = nat_eq c.control.extended 1 in
-    let x = first_place form (length m) o (transfer_address f d) in
-    let y = second_place form (length m) o (transfer_address f d) in
-    let r = store_all m t (x ∷ y ∷ []) (words_of (transfer_stores o f)) in
-    counted (transfer_made o x)
-    (cond (passes (first_fault x y))
-    (part (with_file c (transferred o f (word_at m t x) (word_at m t y))) 0 Nothing r.memory r.tables)
-    (failed c (first_fault x y) m t))
+    let r = test_physical t form (length m) (transfer_kind o) (word_addresses o (transfer_address f d)) in
+    let w = slice_index (words_at m t r.places) 0 in
+    let v = slice_index (words_at m t r.places) 1 in
+    let k = store_all m t r.places (words_of (transfer_stores o f)) in
+    counted r.made
+    (after_test r.fault (part (with_file c (transferred o f w v)) 0 None k.memory k.tables) (λ x. failed c x m t))
 
 -- Document 02, card 1: "IOX, IOXT and IDENT reach them and interrupt 7 stays for all other addresses and for an IDENT
 -- that no device answers." Ruling 31: with 7 nothing changes but P, IID and PID. Ruling 7.3: device registers are no
 -- references.
-unfoldable pub device_stage : Core → List ℕ → List ℕ → DeviceRegister → Part
-device_stage c m t r = cond (answers r) (part (exchanged c r) 0 Nothing m t) (trapped interrupt_iox c m t)
+unfoldable pub device_stage : Core → List ℕ → List ℕ → Option DeviceRegister → Part
+device_stage c m t (Some r) = part (exchanged c r) 0 None m t
+device_stage c m t None = trapped interrupt_iox c m t
 
-unfoldable pub ident_stage : Core → List ℕ → List ℕ → Line → Part
+unfoldable pub ident_stage : Core → List ℕ → List ℕ → Option Line → Part
 ident_stage c m t i =
-    cond (flip_flop c.control.devices i == 1) (part (identified c i) 0 Nothing m t) (trapped interrupt_iox c m t)
+    cond (flip_flop c.control.devices i == 1) (part (identified c i) 0 None m t) (trapped interrupt_iox c m t)
 
 -- what is left to be done outside the level l, or done here; ruling 31: IOX's address is eleven bits of the word,
 -- IOXT's all of T
 abbrev pub system_stage : ℕ → Core → List ℕ → List ℕ → System → Part
-system_stage l c m t (ControlOf o) = part (controlled l c o) 0 Nothing m t
-system_stage l c m t TraPgc = part c 0 ReadPcr m t
-system_stage l c m t TrrPcr = part c 0 WritePcr m t
-system_stage l c m t (Irr n r) = part c 0 (ReadRegister n r) m t
-system_stage l c m t (Irw n r) = part c 0 (WriteRegister n r) m t
-system_stage l c m t (Srb n) = part c 0 (StoreBlock n) m t
-system_stage l c m t (Lrb n) = part c 0 (LoadBlock n) m t
+system_stage l c m t (ControlOf o) = part (controlled l c o) 0 None m t
+system_stage l c m t TraPgc = part c 0 (Some ReadPcr) m t
+system_stage l c m t TrrPcr = part c 0 (Some WritePcr) m t
+system_stage l c m t (Irr n r) = part c 0 (Some (ReadRegister n r)) m t
+system_stage l c m t (Irw n r) = part c 0 (Some (WriteRegister n r)) m t
+system_stage l c m t (Srb n) = part c 0 (Some (StoreBlock n)) m t
+system_stage l c m t (Lrb n) = part c 0 (Some (LoadBlock n)) m t
 system_stage l c m t Exam = examined c m t
 system_stage l c m t Depo = deposited c m t
 system_stage l c m t (Physical o d) = transfer_stage c m t o d
@@ -228,7 +233,8 @@ instruction_stage l c m t (Unprivileged u) = user_stage c m t u
 instruction_stage l c m t (Privileged q) =
     cond (privileged c) (system_stage l (next_core c) m t q) (trapped interrupt_privileged (next_core c) m t)
 instruction_stage l c m t (Execute s) = trapped interrupt_illegal (next_core c) m t
-instruction_stage l c m t (Monitor n) = part (gives interrupt_mon (next_core c)) interrupt_mon (Call (bits_of 16 n)) m t
+instruction_stage l c m t (Monitor n) =
+    part (gives interrupt_mon (next_core c)) interrupt_mon (Some (Call (bits_of 16 n))) m t
 instruction_stage l c m t Illegal = trapped interrupt_illegal (next_core c) m t
 
 -- EXR executes the word in its register, under its own address (ruling 15: of register 0 the word 000000). "An EXR
@@ -245,22 +251,17 @@ instruction_of c w = executed c.file (decode w)
 
 -- "A passed fetch from a lower ring lowers the user's ring in PCR before the word is decoded": a fetch from memory by
 -- way of an entry of that ring. A passed fetch loads, from memory or from the window; the other cases are there for any
--- translation.
-abbrev pub after_fetch : Core → ℕ → Translation → Core
-after_fetch c ring NoAccess = c
+-- place.
+abbrev pub after_fetch : Core → ℕ → Place → Core
 after_fetch c ring (Load p) = cond (c.control.paging == 1) (lowered c ring) c
 after_fetch c ring (Store p) = c
 after_fetch c ring (LoadTable i) = c
 after_fetch c ring (StoreTable i) = c
-after_fetch c ring (Protection g) = c
-after_fetch c ring (PageFault g) = c
-after_fetch c ring OutOfRange = c
 
-unfoldable pub fetched : ℕ → Core → List ℕ → List ℕ → ℕ → Translation → Part
-fetched l c m t ring x =
-    counted 1
-    (cond (passes x) (instruction_stage l (after_fetch c ring x) m t (instruction_of c (word_at m t x)))
-    (failed c x m t))
+unfoldable pub fetched : ℕ → Core → List ℕ → List ℕ → ℕ → Result Place Fault → Part
+fetched l c m t ring (Ok p) =
+    counted 1 (instruction_stage l (after_fetch c ring p) m t (instruction_of c (word_at m t p)))
+fetched l c m t ring (Err x) = counted 1 (failed c x m t)
 
 -- ruling 24: every fetch goes by the normal table, and all accesses of a step by the PTM that it began with
 abbrev pub fetch_of : Core → Access
@@ -336,36 +337,37 @@ put_block s l (r ∷ rs) [] = s
 put_block s l (r ∷ rs) (w ∷ ws) = put_block (put_other s l r w) l rs ws
 
 -- a block's access failed: as any fault of the running level
-abbrev pub block_failed : State → Translation → List ℕ → List ℕ → Turn
-block_failed s x m t = turn (with_core s (faulted x (core_of s))) (fault_of x) m t
+abbrev pub block_failed : State → Fault → List ℕ → List ℕ → Turn
+block_failed s x m t = turn (with_core s (faulted x (core_of s))) (fault_number x) m t
 
 unfoldable pub block_stored : State → ℕ → List ℕ → Tested → Turn
 block_stored s l m r =
     let k = store_all m r.tables r.places (block_words s l block_order) in
     counted_turn r.made
-    (cond (passes r.fault) (turn s 0 k.memory k.tables) (block_failed s r.fault m r.tables))
+    (after_test r.fault (turn s 0 k.memory k.tables) (λ x. block_failed s x m r.tables))
 
 unfoldable pub block_loaded : State → ℕ → List ℕ → Tested → Turn
 block_loaded s l m r =
     counted_turn r.made
-    (cond (passes r.fault) (turn (put_block s l block_order (words_at m r.tables r.places)) 0 m r.tables)
-    (block_failed s r.fault m r.tables))
+    (after_test r.fault (turn (put_block s l block_order (words_at m r.tables r.places)) 0 m r.tables)
+    (λ x. block_failed s x m r.tables))
 
 abbrev pub block_tested : AccessKind → State → List ℕ → List ℕ → Tested
 block_tested k s m t = test_all t (length m) (rights_of (core_of s)) (block_request k s)
 
 -- What the running level left to be done, on the state in which P is one further; so IRR of P and SRB of the running
 -- level give P one further (ruling 22). Ruling 25: MON writes T of level 14 also when level 14 runs.
-unfoldable pub far_stage : State → ℕ → List ℕ → List ℕ → Far → Turn
-far_stage s n m t Nothing = turn s n m t
-far_stage s n m t (Call w) = turn (put_register s internal_level T w) n m t
-far_stage s n m t (ReadRegister l r) = turn (put_register s s.level A (register_at s l r)) n m t
-far_stage s n m t (WriteRegister l r) = turn (put_other s l r (register_at s s.level A)) n m t
-far_stage s n m t ReadPcr = turn (put_register s s.level A (slice_index s.pcr (pcr_level s))) n m t
-far_stage s n m t WritePcr =
+unfoldable pub far_stage : State → ℕ → List ℕ → List ℕ → Option Far → Turn
+far_stage s n m t None = turn s n m t
+far_stage s n m t (Some (Call w)) = turn (put_register s internal_level T w) n m t
+far_stage s n m t (Some (ReadRegister l r)) = turn (put_register s s.level A (register_at s l r)) n m t
+far_stage s n m t (Some (WriteRegister l r)) = turn (put_other s l r (register_at s s.level A)) n m t
+far_stage s n m t (Some ReadPcr) =
+    turn (put_register s s.level A (slice_index s.pcr (pcr_level s))) n m t
+far_stage s n m t (Some WritePcr) =
     turn (with_pcrs s (slice_set s.pcr (pcr_level s) (pcr_mask (register_at s s.level A)))) n m t
-far_stage s n m t (StoreBlock l) = block_stored s l m (block_tested Write s m t)
-far_stage s n m t (LoadBlock l) = block_loaded s l m (block_tested Read s m t)
+far_stage s n m t (Some (StoreBlock l)) = block_stored s l m (block_tested Write s m t)
+far_stage s n m t (Some (LoadBlock l)) = block_loaded s l m (block_tested Read s m t)
 
 -- the running level's words are put back, then what is left is done
 unfoldable pub settled : State → Part → Turn

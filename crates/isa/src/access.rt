@@ -1,4 +1,4 @@
-// An access to memory, what it is judged by, and what comes of it.
+// An access to memory, what it is judged by, and where it goes or why it failed.
 // The kinds of access; Indirect is the access for an indirect word.
 #[derive(Clone, Copy)]
 pub enum AccessKind {
@@ -29,7 +29,7 @@ pub struct Rights {
     pub alternate: u16,
 }
 
-// Up to three words, in order.
+// Up to three words, in order: Pages.words_of and the definitions of what is stored take them so.
 #[derive(Clone, Copy)]
 pub struct Triple {
     pub a: u16,
@@ -37,16 +37,20 @@ pub struct Triple {
     pub c: u16,
 }
 
-// What comes of an access: none was made; a place in memory, or in the page tables, to load from or to store to (an
-// index into the lent words); or the fault: a missing permit or a ring too low, or no permit at all, each with the
-// paging status; or a page beyond the memory.
+// A place that an access goes to, an index into the lent words: a word of memory, or of the page tables, to load from
+// or to store to.
 #[derive(Clone, Copy)]
-pub enum Translation {
-    NoAccess,
+pub enum Place {
     Load(usize),
     Store(usize),
     LoadTable(usize),
     StoreTable(usize),
+}
+
+// Why an access failed: the needed permit is missing or the ring too low, or there is no permit at all, each with the
+// paging status; or the page is beyond the memory.
+#[derive(Clone, Copy)]
+pub enum Fault {
     Protection(u16),
     PageFault(u16),
     OutOfRange,

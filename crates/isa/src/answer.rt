@@ -5,7 +5,6 @@ use crate::machine::{Core, Register, State};
 // PCR, to A or from A; a register block, to memory or from it.
 #[derive(Clone, Copy)]
 pub enum Far {
-    Nothing,
     Call(u16),
     ReadRegister(u16, Register),
     WriteRegister(u16, Register),
@@ -16,17 +15,18 @@ pub enum Far {
 }
 
 // What a step leaves of the running level: its words, the number of the interrupt that it gave, or 0, what is left to
-// be done, and the references made.
+// be done, if anything, and the references made. The number stays one, 0 for none, here and in all that hand it on: the
+// definition Step.Turn and the C interface have it so.
 #[derive(Clone, Copy)]
 pub struct Near {
     pub core: Core,
     pub gave: u16,
-    pub far: Far,
+    pub far: Option<Far>,
     pub references: u32,
 }
 
 // Why a run ended.
-#[derive(Clone, Copy)]
+#[derive(Clone, Copy, PartialEq, Eq)]
 pub enum Reason {
     Stopped,
     Level,
@@ -35,14 +35,14 @@ pub enum Reason {
 }
 
 // What a view is of.
-#[derive(Clone, Copy)]
+#[derive(Clone, Copy, PartialEq, Eq)]
 pub enum Target {
     Memory,
     Tables,
 }
 
 // Why an operation refused: Unread is a typed character's; the last three are the conversions' of the floating forms.
-#[derive(Clone, Copy)]
+#[derive(Clone, Copy, PartialEq, Eq)]
 pub enum Refusal {
     Sizes,
     State,
@@ -60,31 +60,18 @@ pub enum Refusal {
     Precision,
 }
 
-// What is answered beside state, memory and tables: by a step, its interrupt's number or 0; by a run, steps taken,
-// reason and memory references.
+// What a run did: the steps taken, why it ended, and the memory references made.
 #[derive(Clone, Copy)]
-pub enum StepAnswer {
-    Stepped(u16),
-    Refused(Refusal),
+pub struct Ran {
+    pub steps: u64,
+    pub reason: Reason,
+    pub references: u64,
 }
 
+// What is answered, and the state that is left: of a step its interrupt's number or 0; of a run what it did; of a read
+// out the character sent last, or none; of raise, tick, a typed character and load nothing more.
 #[derive(Clone, Copy)]
-pub enum RunAnswer {
-    Ran(u64, Reason, u64),
-    Refused(Refusal),
-}
-
-// By a read out: the character sent last, or none.
-#[derive(Clone, Copy)]
-pub enum SentAnswer {
-    Sent(u16),
-    NoneSent,
-    Refused(Refusal),
-}
-
-// By raise, tick, a typed character, load, write and the call beside view.
-#[derive(Clone, Copy)]
-pub enum Answer {
-    Done,
-    Refused(Refusal),
+pub struct Answered<T> {
+    pub answer: Result<T, Refusal>,
+    pub state: State,
 }

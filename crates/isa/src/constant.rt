@@ -109,6 +109,7 @@ pub const FLAG_C: u16 = 6;
 pub const FLAG_M: u16 = 7;
 
 // The internal interrupts.
+// Numbers, as document 01 names interrupts: `control::interrupt::gives` answers for each number below 16.
 pub const INTERRUPT_MON: u16 = 1;
 
 pub const INTERRUPT_PROTECTION: u16 = 2;
@@ -131,6 +132,7 @@ pub const ENTRY_SIZE: usize = 5;
 
 pub const MOST_ENTRIES: usize = 32;
 
+// The kinds are numbers in an image and to C alone: the code has `image_directory::entry::Kind`.
 pub const KIND_MEMORY: u16 = 1;
 
 pub const KIND_REGISTERS: u16 = 2;

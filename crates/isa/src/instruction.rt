@@ -231,6 +231,7 @@ pub enum System {
 }
 
 // An instruction: EXR with its source, MON with its number.
+// Illegal is among them, and no None: it is executed as the others are, and gives interrupt 4.
 #[derive(Clone, Copy)]
 pub enum Instruction {
     Unprivileged(User),

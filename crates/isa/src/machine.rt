@@ -3,14 +3,11 @@ ghost use Rattle.std.specs.Prelude.{◌≡◌, ◌<◌};
 ghost use Rattle.isa.specs.Machine.{number, reg, with_reg, next, control_of, state_with, with_file, with_pcr};
 ghost use Rattle.isa.specs.Machine.{with_control};
 
-use crate::constant::{
-    LEVEL_COUNT, NUMBER_A, NUMBER_B, NUMBER_D, NUMBER_L, NUMBER_P, NUMBER_STS, NUMBER_T, NUMBER_X,
-    REGISTER_WORDS,
-};
+use crate::constant::{LEVEL_COUNT, REGISTER_WORDS, TABLE_WORDS};
 use crate::device::Devices;
 
 // The registers of a level, in the order of their numbers 0 to 7.
-#[derive(Clone, Copy)]
+#[derive(Clone, Copy, PartialEq, Eq)]
 pub enum Register {
     Sts,
     D,
@@ -27,16 +24,7 @@ impl Register {
         ensures value { result ≡ number self }
         ensures upper_bound { result < 8 }
     {
-        match self {
-            Register::Sts => NUMBER_STS,
-            Register::D => NUMBER_D,
-            Register::P => NUMBER_P,
-            Register::B => NUMBER_B,
-            Register::L => NUMBER_L,
-            Register::A => NUMBER_A,
-            Register::T => NUMBER_T,
-            Register::X => NUMBER_X,
-        }
+        self as usize
     }
 }
 
@@ -44,14 +32,14 @@ impl Register {
 // compiler copies cheaply (docs/BENCHMARK.md).
 #[derive(Clone, Copy)]
 pub struct File {
-    pub sts: u16,
     pub d: u16,
     pub p: u16,
-    pub x: u16,
-    pub l: u16,
+    pub sts: u16,
     pub a: u16,
+    pub x: u16,
     pub t: u16,
     pub b: u16,
+    pub l: u16,
 }
 
 impl File {
@@ -106,7 +94,7 @@ impl File {
     pub fn next(mut self) -> File
         ensures { result ≡ next self }
     {
-        self.p = std::num::wrapping_add_u16(self.p, 1);
+        self.p = self.p.wrapping_add(1);
         self
     }
 }
@@ -138,6 +126,9 @@ pub struct Added {
 pub type RegisterWords = [u16; REGISTER_WORDS];
 
 pub type Pcrs = [u16; LEVEL_COUNT];
+
+// The words of all page tables.
+pub type PageTables = [u16; TABLE_WORDS];
 
 // The machine as callers hand it in and get it back: register n of a level is word 8 * level + n. In C's layout its 168
 // words stand in image order, with nothing between them.
@@ -177,11 +168,9 @@ impl State {
         ensures { result ≡ control_of self }
     {
         let w = self.control;
-        let a = self.added;
-        let d = self.devices;
         Control {
             interrupts: w.interrupts,
-            held: a.held,
+            held: self.added.held,
             paging: w.paging,
             stopped: w.stopped,
             pid: w.pid,
@@ -190,8 +179,8 @@ impl State {
             iid: w.iid,
             iie: w.iie,
             pgs: w.pgs,
-            extended: a.extended,
-            devices: d,
+            extended: self.added.extended,
+            devices: self.devices,
         }
     }
 
@@ -199,10 +188,9 @@ impl State {
     pub fn with(level: u16, k: Control, regs: RegisterWords, pcrs: Pcrs) -> State
         ensures { result ≡ state_with level k regs pcrs }
     {
-        let d = k.devices;
         State {
-            regs: regs,
-            level: level,
+            regs,
+            level,
             control: Scalars {
                 interrupts: k.interrupts,
                 paging: k.paging,
@@ -219,7 +207,7 @@ impl State {
                 held: k.held,
                 extended: k.extended,
             },
-            devices: d,
+            devices: k.devices,
         }
     }
 }
@@ -236,34 +224,18 @@ impl Core {
     pub fn with_file(self, f: File) -> Core
         ensures { result ≡ with_file self f }
     {
-        let k = self.control;
-        Core {
-            file: f,
-            pcr: self.pcr,
-            control: k,
-        }
+        Core { file: f, ..self }
     }
 
     pub fn with_pcr(self, p: u16) -> Core
         ensures { result ≡ with_pcr self p }
     {
-        let f = self.file;
-        let k = self.control;
-        Core {
-            file: f,
-            pcr: p,
-            control: k,
-        }
+        Core { pcr: p, ..self }
     }
 
     pub fn with_control(self, k: Control) -> Core
         ensures { result ≡ with_control self k }
     {
-        let f = self.file;
-        Core {
-            file: f,
-            pcr: self.pcr,
-            control: k,
-        }
+        Core { control: k, ..self }
     }
 }

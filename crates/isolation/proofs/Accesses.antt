@@ -10,15 +10,17 @@ use native.Mathlib.Omega.{arith}
 use lib.Dec.{eqb}
 use borrow.Author.Tests.{eq-eqb}
 use Rattle.isa.specs.Machine.{flag, flag_ptm, ring_of, normal_table_of, alternate_table_of}
-use Rattle.isa.specs.Pages.{Entry, entry_at, judged, slot_of, table_of, in_window, translate, passes, marked}
-use Rattle.isa.specs.Pages.{Tested, test_all, also_at, rights_of}
+use Rattle.isa.specs.Pages.{Entry, entry_at, judged, slot_of, table_of, in_window, translate, marked}
+use Rattle.isa.specs.Pages.{Tested, tested_first, test_all, rights_of}
 use Rattle.isa.specs.Isolation.{MarksAlone, permits, permits_writing, permitted, permitted_writing}
 use Rattle.isa.specs.declared.machine.Core.{Core}
 use Rattle.isa.specs.declared.access.Access.{Access}
 use Rattle.isa.specs.declared.access.Rights.{Rights}
-use Rattle.isa.specs.declared.access.Translation.{Translation}
-use Rattle.isa.specs.declared.access.Translation.TheVariants.{NoAccess, Load, Store, LoadTable, StoreTable}
-use Rattle.isa.specs.declared.access.Translation.TheVariants.{Protection, PageFault, OutOfRange}
+use Rattle.std.specs.declared.result.Result.{Result}
+use Rattle.std.specs.declared.result.Result.TheVariants.{Ok, Err}
+use Rattle.isa.specs.declared.access.Place.{Place}
+use Rattle.isa.specs.declared.access.Place.TheVariants.{Load, Store, LoadTable, StoreTable}
+use Rattle.isa.specs.declared.access.Fault.{Fault}
 use Rattle.isa.proofs.Window.{no_window}
 use Rattle.isa.proofs.Marks.{Marked, mark_keeps}
 use Rattle.isa.proofs.Tables.{Lasting, marked_keeps}
@@ -60,40 +62,37 @@ module _ (form : Bool) (t₀ : List ℕ) (a b ρ : ℕ) where
       by_rule false = inl h.normal
 
   -- An access that passed loads from a page that is permitted, or stores to one that is permitted for writing.
-  abbrev pub Allowed : Translation → Type 0
-  Allowed NoAccess = Unit {0}
+  abbrev pub Allowed : Place → Type 0
   Allowed (Load p) = permitted form t₀ a b ρ (p / 1024) ≡ true
   Allowed (Store p) = permitted_writing form t₀ a b ρ (p / 1024) ≡ true
   Allowed (LoadTable i) = ⊥
   Allowed (StoreTable i) = ⊥
-  Allowed (Protection g) = Unit {0}
-  Allowed (PageFault g) = Unit {0}
-  Allowed OutOfRange = Unit {0}
+
+  abbrev pub OutcomeAllowed : Result Place Fault → Type 0
+  OutcomeAllowed (Ok p) = Allowed p
+  OutcomeAllowed (Err f) = Unit {0}
 
   -- what an entry permits to a ring not above, its entry at the start permits to the ring of the start
   module _ (table v : ℕ) (e : Entry) (ring : ℕ) (on : (table ≡ a) ⊎ (table ≡ b)) (low : v < 64)
       (h : MarksAlone e (entry_at form t₀ (table * 64 + v))) (l : ring ≤ ρ)
     where
-      by-allowed : (x : Translation) → By e ring x → Allowed x
-      by-allowed NoAccess q = tt
-      by-allowed (Load p) q =
+      by-allowed : (x : Result Place Fault) → By e ring x → OutcomeAllowed x
+      by-allowed (Ok (Load p)) q =
           either_table (λ (x : Entry). permits x ρ (p / 1024)) form t₀ a b table v on low
           (permits_later e (entry_at form t₀ (table * 64 + v)) ring ρ (p / 1024) h l q)
-      by-allowed (Store p) q =
+      by-allowed (Ok (Store p)) q =
           either_table (λ (x : Entry). permits_writing x ρ (p / 1024)) form t₀ a b table v on low
           (writing_later e (entry_at form t₀ (table * 64 + v)) ring ρ (p / 1024) h l q)
-      by-allowed (LoadTable i) q = q
-      by-allowed (StoreTable i) q = q
-      by-allowed (Protection g) q = tt
-      by-allowed (PageFault g) q = tt
-      by-allowed OutOfRange q = tt
+      by-allowed (Ok (LoadTable i)) q = q
+      by-allowed (Ok (StoreTable i)) q = q
+      by-allowed (Err f) q = tt
 
   -- one access
   module _ (t : List ℕ) (words : ℕ) (r : Rights) (ρ≤1 : ρ ≤ 1) (hm : Marked form t t₀) (hr : HeldRights r) where
     closed : (va : ℕ) → in_window r va ≡ false
     closed va = no_window r va hr.paging_on (omega (arith, hr.ring_low))
 
-    translate_allowed : (x : Access) → Allowed (translate t words r x)
+    translate_allowed : (x : Access) → OutcomeAllowed (translate t words r x)
     unfolding translate
     translate_allowed x =
         let i = slot_of (table_of r x.alternate) x.address in
@@ -108,9 +107,9 @@ module _ (form : Bool) (t₀ : List ℕ) (a b ρ : ℕ) where
   marks_last r e = rw e (mark_keeps form t₀)
 
   -- a list of accesses: each place allowed, and the tables changed in marks alone
-  pub data AllAllowed : List Translation → Type 0 where
+  pub data AllAllowed : List Place → Type 0 where
     none : AllAllowed []
-    also : {x : Translation} {xs : List Translation} → Allowed x → AllAllowed xs → AllAllowed (x ∷ xs)
+    also : {x : Place} {xs : List Place} → Allowed x → AllAllowed xs → AllAllowed (x ∷ xs)
 
   pub record HeldTests (r : Tested) : Type 0 where
     pub places : AllAllowed r.places
@@ -120,19 +119,17 @@ module _ (form : Bool) (t₀ : List ℕ) (a b ρ : ℕ) where
       → HeldTests (test_all t words r xs)
   tests_held words r low hr [] t hm = record { places = none; marks = hm }
   tests_held words r low hr (x ∷ xs) t hm =
-      go (passes (translate t words r x))
+      go (translate t words r x) (translate_allowed t words r low hm hr x) _
       (tests_held words r low hr xs (marked t words r x)
       (marked_keeps (λ (y : List ℕ). Marked form y t₀) r (marks_last r hr.entries) t words x hm))
     where
-      go : (y : Bool) → HeldTests (test_all (marked t words r x) words r xs)
-          → HeldTests (cond y (also_at (translate t words r x) (test_all (marked t words r x) words r xs))
-          (record { tables = t; places = []; fault = translate t words r x; made = 1 }))
-      go true h = record { places = also (translate_allowed t words r low hm hr x) h.places; marks = h.marks }
-      go false h = record { places = none; marks = hm }
+      go : (y : Result Place Fault) → OutcomeAllowed y → (q : Tested) → HeldTests q → HeldTests (tested_first t y q)
+      go (Ok p) k q h = record { places = also k h.places; marks = h.marks }
+      go (Err f) k q h = record { places = none; marks = hm }
 
   -- the same of a core's accesses
   module _ (ρ≤1 : ρ ≤ 1) (c : Core) (h : Held c) (t : List ℕ) (hm : Marked form t t₀) (words : ℕ) where
-    pub core_allowed : (x : Access) → Allowed (translate t words (rights_of c) x)
+    pub core_allowed : (x : Access) → OutcomeAllowed (translate t words (rights_of c) x)
     core_allowed x = translate_allowed t words (rights_of c) ρ≤1 hm (held_rights c h) x
 
     pub core_marked : (x : Access) → Marked form (marked t words (rights_of c) x) t₀

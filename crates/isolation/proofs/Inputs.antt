@@ -18,9 +18,9 @@ use Rattle.isa.specs.declared.device.DeviceInput.{DeviceInput}
 use Rattle.isa.specs.declared.device.DeviceInput.TheVariants.{Raise, Tick, Typed, ReadOut}
 use Rattle.isa.specs.declared.answer.Reason.{Reason}
 use Rattle.isa.specs.declared.answer.Refusal.TheVariants.{RaiseLevel, Unread}
-use Rattle.isa.specs.declared.answer.Answer.TheVariants.{Done, Refused}
 use Rattle.isolation.proofs.Accesses.{Held}
 use Rattle.isolation.proofs.Runs.{EvenRun, EvenRest, counted_run_law, later, run_even}
+use Rattle.std.specs.declared.result.Result.TheVariants.{Ok, Err}
 
 module _ (form : Bool) (t₀ : List ℕ) (a b ρ : ℕ) where
   -- other control words with the same switches for paging and extended mode confine the level as before
@@ -40,13 +40,13 @@ module _ (form : Bool) (t₀ : List ℕ) (a b ρ : ℕ) where
       → Held form t₀ a b ρ (core_of (input_call i s).state)
   input_held (Raise l) s h = go (device_level l)
     where
-      go : (x : Bool) → Held form t₀ a b ρ (core_of (raise_call_by (cond x Done (Refused RaiseLevel)) s l).state)
+      go : (x : Bool) → Held form t₀ a b ρ (core_of (raise_call_by (cond x (Ok tt) (Err RaiseLevel)) s l).state)
       go true = words_held s (with_pid (control_of s) (with_bit l 1 s.control.pid)) refl refl h
       go false = h
   input_held Tick s h = words_held s (ticked (control_of s)) refl refl h
   input_held (Typed w) s h = go (is_unread s)
     where
-      go : (x : Bool) → Held form t₀ a b ρ (core_of (type_call_by (cond x (Refused Unread) Done) s w).state)
+      go : (x : Bool) → Held form t₀ a b ρ (core_of (type_call_by (cond x (Err Unread) (Ok tt)) s w).state)
       go true = h
       go false = words_held s (typed (control_of s) w) refl refl h
   input_held ReadOut s h = go (waits s)

@@ -11,9 +11,8 @@ use lib.ListN.{get_or, set, drop, length, length-set}
 use lib.Seq.{get_or-set_same, get_or-set_other, set_out}
 use Rattle.isa.specs.Pages.{word_at, words_at, store_all, Lent}
 use Rattle.isa.specs.Isolation.{permitted, permitted_writing}
-use Rattle.isa.specs.declared.access.Translation.{Translation}
-use Rattle.isa.specs.declared.access.Translation.TheVariants.{NoAccess, Load, Store, LoadTable, StoreTable}
-use Rattle.isa.specs.declared.access.Translation.TheVariants.{Protection, PageFault, OutOfRange}
+use Rattle.isa.specs.declared.access.Place.{Place}
+use Rattle.isa.specs.declared.access.Place.TheVariants.{Load, Store, LoadTable, StoreTable}
 use Rattle.isa.proofs.Tests.{no_both}
 use Rattle.isolation.proofs.Accesses.{Allowed, AllAllowed, also}
 
@@ -73,18 +72,14 @@ module _ (form : Bool) (t₀ : List ℕ) (a b ρ : ℕ) where
   set_kept m p v h =
       record { size = length-set m p v; same = λ k f. get_or-set_other m p k v 0 (λ q. no_both (sym (rw q at f) ∙ h)) }
 
-  pub word_same : (m n t : List ℕ) (x : Translation) → Allowed form t₀ a b ρ x → Agree m n
+  pub word_same : (m n t : List ℕ) (x : Place) → Allowed form t₀ a b ρ x → Agree m n
       → word_at m t x ≡ word_at n t x
-  word_same m n t NoAccess h l = refl
   word_same m n t (Load p) h l = l.same p h
   word_same m n t (Store p) h l = refl
   word_same m n t (LoadTable i) h l = refl
   word_same m n t (StoreTable i) h l = refl
-  word_same m n t (Protection g) h l = refl
-  word_same m n t (PageFault g) h l = refl
-  word_same m n t OutOfRange h l = refl
 
-  pub words_same : (m n t : List ℕ) (xs : List Translation) → AllAllowed form t₀ a b ρ xs → Agree m n
+  pub words_same : (m n t : List ℕ) (xs : List Place) → AllAllowed form t₀ a b ρ xs → Agree m n
       → words_at m t xs ≡ words_at n t xs
   words_same m n t [] h l = refl
   words_same m n t (x ∷ xs) (also h hs) l =
@@ -108,10 +103,9 @@ module _ (form : Bool) (t₀ : List ℕ) (a b ρ : ℕ) where
     right_tables = h.right_tables;
   }
 
-  pub store_all_law : (m n t : List ℕ) (xs : List Translation) (ws : List ℕ) → AllAllowed form t₀ a b ρ xs → Agree m n
+  pub store_all_law : (m n t : List ℕ) (xs : List Place) (ws : List ℕ) → AllAllowed form t₀ a b ρ xs → Agree m n
       → Stored m n t (store_all m t xs ws) (store_all n t xs ws)
   store_all_law m n t [] ws h l = stored_none m n t l
-  store_all_law m n t (NoAccess ∷ xs) ws (also h hs) l = store_all_law m n t xs ws hs l
   store_all_law m n t (Load p ∷ xs) ws (also h hs) l = store_all_law m n t xs ws hs l
   store_all_law m n t (Store p ∷ xs) ws (also h hs) l =
       let w : ℕ = get_or ws 0 0 in
@@ -122,6 +116,3 @@ module _ (form : Bool) (t₀ : List ℕ) (a b ρ : ℕ) where
       (store_all_law (set m p w) (set n p w) t xs vs hs e)
   store_all_law m n t (LoadTable i ∷ xs) ws (also h hs) l = absurd h
   store_all_law m n t (StoreTable i ∷ xs) ws (also h hs) l = absurd h
-  store_all_law m n t (Protection g ∷ xs) ws (also h hs) l = store_all_law m n t xs ws hs l
-  store_all_law m n t (PageFault g ∷ xs) ws (also h hs) l = store_all_law m n t xs ws hs l
-  store_all_law m n t (OutOfRange ∷ xs) ws (also h hs) l = store_all_law m n t xs ws hs l

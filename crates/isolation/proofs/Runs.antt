@@ -14,8 +14,10 @@ use Rattle.isa.specs.Step.{Part, Turn, turn, counted_turn, far_stage, settled, s
 use Rattle.isa.specs.Run.{Run, ended, counted_run, after_step, run_from}
 use Rattle.isa.specs.declared.machine.State.{State}
 use Rattle.isa.specs.declared.machine.Core.{Core}
+use Rattle.std.specs.declared.option.Option.{Option}
+use Rattle.std.specs.declared.option.Option.TheVariants.{None, Some}
 use Rattle.isa.specs.declared.answer.Far.{Far}
-use Rattle.isa.specs.declared.answer.Far.TheVariants.{Nothing, Call, ReadRegister, WriteRegister, ReadPcr, WritePcr}
+use Rattle.isa.specs.declared.answer.Far.TheVariants.{Call, ReadRegister, WriteRegister, ReadPcr, WritePcr}
 use Rattle.isa.specs.declared.answer.Far.TheVariants.{StoreBlock, LoadBlock}
 use Rattle.isa.specs.declared.answer.Reason.{Reason}
 use Rattle.isa.specs.declared.answer.Reason.TheVariants.{Stopped, Level, Spent, Interrupt}
@@ -61,13 +63,14 @@ module _ (form : Bool) (t₀ : List ℕ) (a b ρ : ℕ) where
     held : Held form t₀ a b ρ (core_of r.state)
 
   -- what is left to be done outside the level touches no memory and nothing that confines the level
-  far_even : (s : State) (g : ℕ) (m n m' n' t : List ℕ) (far : Far) → Local far → EvenMemories form t₀ a b ρ m n m' n'
+  far_even : (s : State) (g : ℕ) (m n m' n' t : List ℕ) (far : Option Far) → Local far
+      → EvenMemories form t₀ a b ρ m n m' n'
       → Marked form t t₀
       → Held form t₀ a b ρ (core_of s) → EvenTurn m n (far_stage s g m' t far) (far_stage s g n' t far)
   unfolding far_stage
-  far_even s g m n m' n' t Nothing hf h hm hs =
+  far_even s g m n m' n' t None hf h hm hs =
       record { state = refl; gave = refl; references = refl; tables = refl; memories = h; marks = hm; held = hs }
-  far_even s g m n m' n' t (Call w) hf h hm hs = record {
+  far_even s g m n m' n' t (Some (Call w)) hf h hm hs = record {
     state = refl;
     gave = refl;
     references = refl;
@@ -82,12 +85,12 @@ module _ (form : Bool) (t₀ : List ℕ) (a b ρ : ℕ) where
       alternate = hs.alternate;
     };
   }
-  far_even s g m n m' n' t (ReadRegister x r) hf h hm hs = absurd hf
-  far_even s g m n m' n' t (WriteRegister x r) hf h hm hs = absurd hf
-  far_even s g m n m' n' t ReadPcr hf h hm hs = absurd hf
-  far_even s g m n m' n' t WritePcr hf h hm hs = absurd hf
-  far_even s g m n m' n' t (StoreBlock x) hf h hm hs = absurd hf
-  far_even s g m n m' n' t (LoadBlock x) hf h hm hs = absurd hf
+  far_even s g m n m' n' t (Some (ReadRegister x r)) hf h hm hs = absurd hf
+  far_even s g m n m' n' t (Some (WriteRegister x r)) hf h hm hs = absurd hf
+  far_even s g m n m' n' t (Some ReadPcr) hf h hm hs = absurd hf
+  far_even s g m n m' n' t (Some WritePcr) hf h hm hs = absurd hf
+  far_even s g m n m' n' t (Some (StoreBlock x)) hf h hm hs = absurd hf
+  far_even s g m n m' n' t (Some (LoadBlock x)) hf h hm hs = absurd hf
 
   -- as many references more in both
   counted_turn_law : {m n : List ℕ} {r q : Turn} (k : ℕ) → EvenTurn m n r q

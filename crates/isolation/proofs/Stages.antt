@@ -11,7 +11,7 @@ use borrow.Author.Tests.{ltb-true, lt-leb, eq-eqb}
 use Rattle.isa.specs.Machine.{bit, reg, next_core, with_file, with_control, with_pcr, ring_of}
 use Rattle.isa.specs.Flags.{bits_of}
 use Rattle.isa.specs.Instructions.{Completed, complete, request, indirect_request}
-use Rattle.isa.specs.Pages.{entry_at, slot_of, Tested, test_all, translate, marked, fault_of, passes, word_at, words_at}
+use Rattle.isa.specs.Pages.{entry_at, slot_of, Tested, test_all, translate, marked, fault_number, word_at, words_at}
 use Rattle.isa.specs.Pages.{rights_of, lowered, lowered_pcr}
 use Rattle.isa.specs.Step.{Part, part, counted, interrupted, gives, with_pgs, faulted, failed, trapped, finished_core}
 use Rattle.isa.specs.Step.{finished, operands_tested, operands, indirect_tested, user_stage, privileged}
@@ -23,28 +23,32 @@ use Rattle.isa.specs.declared.machine.Register.TheVariants.{P}
 use Rattle.isa.specs.declared.instruction.User.{User}
 use Rattle.isa.specs.declared.instruction.Instruction.{Instruction}
 use Rattle.isa.specs.declared.instruction.Instruction.TheVariants.{Unprivileged, Privileged, Execute, Monitor, Illegal}
-use Rattle.isa.specs.declared.access.Translation.{Translation}
-use Rattle.isa.specs.declared.access.Translation.TheVariants.{NoAccess, Load, Store, LoadTable, StoreTable}
-use Rattle.isa.specs.declared.access.Translation.TheVariants.{Protection, PageFault, OutOfRange}
+use Rattle.std.specs.declared.option.Option.{Option}
+use Rattle.std.specs.declared.option.Option.TheVariants.{None, Some}
+use Rattle.std.specs.declared.result.Result.{Result}
+use Rattle.std.specs.declared.result.Result.TheVariants.{Ok, Err}
+use Rattle.isa.specs.declared.access.Place.{Place}
+use Rattle.isa.specs.declared.access.Place.TheVariants.{Load, Store, LoadTable, StoreTable}
+use Rattle.isa.specs.declared.access.Fault.{Fault}
 use Rattle.isa.specs.declared.answer.Far.{Far}
-use Rattle.isa.specs.declared.answer.Far.TheVariants.{Nothing, Call, ReadRegister, WriteRegister, ReadPcr, WritePcr}
+use Rattle.isa.specs.declared.answer.Far.TheVariants.{Call, ReadRegister, WriteRegister, ReadPcr, WritePcr}
 use Rattle.isa.specs.declared.answer.Far.TheVariants.{StoreBlock, LoadBlock}
 use Rattle.isa.proofs.Marks.{Marked}
-use Rattle.isa.proofs.Tests.{either}
-use Rattle.isolation.proofs.Accesses.{Held, Allowed, AllAllowed, HeldTests, core_allowed, core_marked}
+use Rattle.isa.proofs.Tests.{either, alike_by_fault}
+use Rattle.isolation.proofs.Accesses.{Held, OutcomeAllowed, AllAllowed, HeldTests, core_allowed, core_marked}
 use Rattle.isolation.proofs.Accesses.{core_tests}
 use Rattle.isolation.proofs.Memories.{Agree, EvenMemories, even_refl, word_same, words_same, store_all_law}
 
 -- what an unprivileged program leaves to be done outside its level: nothing, or a monitor call
-abbrev pub Local : Far → Type 0
-Local Nothing = Unit {0}
-Local (Call w) = Unit {0}
-Local (ReadRegister l r) = ⊥
-Local (WriteRegister l r) = ⊥
-Local ReadPcr = ⊥
-Local WritePcr = ⊥
-Local (StoreBlock l) = ⊥
-Local (LoadBlock l) = ⊥
+abbrev pub Local : Option Far → Type 0
+Local None = Unit {0}
+Local (Some (Call w)) = Unit {0}
+Local (Some (ReadRegister l r)) = ⊥
+Local (Some (WriteRegister l r)) = ⊥
+Local (Some ReadPcr) = ⊥
+Local (Some WritePcr) = ⊥
+Local (Some (StoreBlock l)) = ⊥
+Local (Some (LoadBlock l)) = ⊥
 
 -- an interrupt leaves the switches for paging and extended mode
 switches_stay : (n : ℕ) (k : Control)
@@ -94,10 +98,10 @@ module _ (form : Bool) (t₀ : List ℕ) (a b ρ : ℕ) where
     alternate = h.alternate;
   }
 
-  faulted_held : (x : Translation) (c : Core) → Held form t₀ a b ρ c → Held form t₀ a b ρ (faulted x c)
+  faulted_held : (x : Fault) (c : Core) → Held form t₀ a b ρ c → Held form t₀ a b ρ (faulted x c)
   unfolding faulted
   faulted_held x c h =
-      gives_held (fault_of x) (with_control c (with_pgs c.control x))
+      gives_held (fault_number x) (with_control c (with_pgs c.control x))
       (record {
         paging_on = h.paging_on;
         entries = h.entries;
@@ -129,9 +133,8 @@ module _ (form : Bool) (t₀ : List ℕ) (a b ρ : ℕ) where
             alternate = lower_alternate c.pcr ring l ∙ h.alternate;
           }
 
-  fetch_held : (c : Core) (ring : ℕ) (x : Translation) → Held form t₀ a b ρ c
+  fetch_held : (c : Core) (ring : ℕ) (x : Place) → Held form t₀ a b ρ c
       → Held form t₀ a b ρ (after_fetch c ring x)
-  fetch_held c ring NoAccess h = h
   fetch_held c ring (Load p) h = go (eqb c.control.paging 1)
     where
       go : (x : Bool) → Held form t₀ a b ρ (cond x (lowered c ring) c)
@@ -140,9 +143,6 @@ module _ (form : Bool) (t₀ : List ℕ) (a b ρ : ℕ) where
   fetch_held c ring (Store p) h = h
   fetch_held c ring (LoadTable i) h = h
   fetch_held c ring (StoreTable i) h = h
-  fetch_held c ring (Protection g) h = h
-  fetch_held c ring (PageFault g) h = h
-  fetch_held c ring OutOfRange h = h
 
   completed_held : (c : Core) (d : Completed) → Held form t₀ a b ρ c → Held form t₀ a b ρ (finished_core c d)
   completed_held c d h = go d.error
@@ -165,7 +165,7 @@ module _ (form : Bool) (t₀ : List ℕ) (a b ρ : ℕ) where
   -- from two memories that agree
   module _ (m n : List ℕ) (h : Agree form t₀ a b ρ m n) where
     -- a stage that stores nothing
-    quiet : (t : List ℕ) (c : Core) (g : ℕ) (far : Far) → Marked form t t₀ → Held form t₀ a b ρ c → Local far
+    quiet : (t : List ℕ) (c : Core) (g : ℕ) (far : Option Far) → Marked form t t₀ → Held form t₀ a b ρ c → Local far
         → Even m n (part c g far m t) (part c g far n t)
     quiet t c g far hm hc hf = record {
       near = refl;
@@ -176,16 +176,16 @@ module _ (form : Bool) (t₀ : List ℕ) (a b ρ : ℕ) where
       local = hf;
     }
 
-    failed_even : (t : List ℕ) (c : Core) (x : Translation) → Marked form t t₀ → Held form t₀ a b ρ c
+    failed_even : (t : List ℕ) (c : Core) (x : Fault) → Marked form t t₀ → Held form t₀ a b ρ c
         → Even m n (failed c x m t) (failed c x n t)
-    failed_even t c x hm hc = quiet t (faulted x c) (fault_of x) Nothing hm (faulted_held x c hc) tt
+    failed_even t c x hm hc = quiet t (faulted x c) (fault_number x) None hm (faulted_held x c hc) tt
 
     trapped_even : (t : List ℕ) (k : ℕ) (c : Core) → Marked form t t₀ → Held form t₀ a b ρ c
         → Even m n (trapped k c m t) (trapped k c n t)
-    trapped_even t k c hm hc = quiet t (gives k c) k Nothing hm (gives_held k c hc) tt
+    trapped_even t k c hm hc = quiet t (gives k c) k None hm (gives_held k c hc) tt
 
     module _ (c : Core) (hc : Held form t₀ a b ρ c) where
-      finished_even : (t : List ℕ) (xs : List Translation) (d : Completed) → Marked form t t₀
+      finished_even : (t : List ℕ) (xs : List Place) (d : Completed) → Marked form t t₀
           → AllAllowed form t₀ a b ρ xs
           → Even m n (finished c m t xs d) (finished c n t xs d)
       unfolding finished
@@ -205,17 +205,10 @@ module _ (form : Bool) (t₀ : List ℕ) (a b ρ : ℕ) where
       unfolding operands_tested
       tested_even u i r hr =
           rw (← words_same form t₀ a b ρ m n r.tables r.places hr.places h)
-          (counted_even r.made (go (passes r.fault)))
-        where
-          d : Completed
-          d = complete u c.file i (words_at m r.tables r.places)
-
-          go : (x : Bool)
-              → Even m n (cond x (finished c m r.tables r.places d)
-              (failed (next_core c) r.fault m r.tables))
-              (cond x (finished c n r.tables r.places d) (failed (next_core c) r.fault n r.tables))
-          go true = finished_even r.tables r.places d hr.marks hr.places
-          go false = failed_even r.tables (next_core c) r.fault hr.marks (next_held c hc)
+          (counted_even r.made
+          (alike_by_fault (Even m n) r.fault
+          (finished_even r.tables r.places (complete u c.file i (words_at m r.tables r.places)) hr.marks hr.places)
+          (λ x. failed_even r.tables (next_core c) x hr.marks (next_held c hc))))
 
       module _ (ρ≤1 : ρ ≤ 1) where
         operands_even : (t : List ℕ) (u : User) (i : ℕ) → Marked form t t₀
@@ -230,16 +223,10 @@ module _ (form : Bool) (t₀ : List ℕ) (a b ρ : ℕ) where
         unfolding indirect_tested
         indirect_even u r hr =
             rw (← words_same form t₀ a b ρ m n r.tables r.places hr.places h)
-            (counted_even r.made (go (passes r.fault)))
-          where
-            i : ℕ
-            i = get_or (words_at m r.tables r.places) 0 0
-
-            go : (x : Bool)
-                → Even m n (cond x (operands c m r.tables u i) (failed (next_core c) r.fault m r.tables))
-                (cond x (operands c n r.tables u i) (failed (next_core c) r.fault n r.tables))
-            go true = operands_even r.tables u i hr.marks
-            go false = failed_even r.tables (next_core c) r.fault hr.marks (next_held c hc)
+            (counted_even r.made
+            (alike_by_fault (Even m n) r.fault
+            (operands_even r.tables u (get_or (words_at m r.tables r.places) 0 0) hr.marks)
+            (λ x. failed_even r.tables (next_core c) x hr.marks (next_held c hc))))
 
         user_even : (t : List ℕ) (u : User) → Marked form t t₀ → Even m n (user_stage c m t u) (user_stage c n t u)
         unfolding user_stage
@@ -259,24 +246,22 @@ module _ (form : Bool) (t₀ : List ℕ) (a b ρ : ℕ) where
         instruction_even l t (Privileged q) hm = rw not_privileged (trapped_even t 6 (next_core c) hm (next_held c hc))
         instruction_even l t (Execute s) hm = trapped_even t 4 (next_core c) hm (next_held c hc)
         instruction_even l t (Monitor k) hm =
-            quiet t (gives 1 (next_core c)) 1 (Call (bits_of 16 k)) hm (gives_held 1 (next_core c) (next_held c hc)) tt
+            quiet t (gives 1 (next_core c)) 1 (Some (Call (bits_of 16 k))) hm
+            (gives_held 1 (next_core c) (next_held c hc)) tt
         instruction_even l t Illegal hm = trapped_even t 4 (next_core c) hm (next_held c hc)
 
     -- fetch, and the whole step of the level
     module _ (ρ≤1 : ρ ≤ 1) (l : ℕ) (c : Core) (hc : Held form t₀ a b ρ c) where
-      fetched_even : (t : List ℕ) (ring : ℕ) (x : Translation) → Marked form t t₀ → Allowed form t₀ a b ρ x
+      fetched_even : (t : List ℕ) (ring : ℕ) (x : Result Place Fault) → Marked form t t₀
+          → OutcomeAllowed form t₀ a b ρ x
           → Even m n (fetched l c m t ring x) (fetched l c n t ring x)
       unfolding fetched
-      fetched_even t ring x hm hx = rw (← word_same form t₀ a b ρ m n t x hx h) (counted_even 1 (go (passes x)))
-        where
-          i : Instruction
-          i = instruction_of c (word_at m t x)
-
-          go : (y : Bool)
-              → Even m n (cond y (instruction_stage l (after_fetch c ring x) m t i) (failed c x m t))
-              (cond y (instruction_stage l (after_fetch c ring x) n t i) (failed c x n t))
-          go true = instruction_even (after_fetch c ring x) (fetch_held c ring x hc) ρ≤1 l t i hm
-          go false = failed_even t c x hm hc
+      fetched_even t ring (Ok p) hm hx =
+          rw (← word_same form t₀ a b ρ m n t p hx h)
+          (counted_even 1
+          (instruction_even (after_fetch c ring p) (fetch_held c ring p hc) ρ≤1 l t
+          (instruction_of c (word_at m t p)) hm))
+      fetched_even t ring (Err f) hm hx = counted_even 1 (failed_even t c f hm hc)
 
       pub level_even : (t : List ℕ) → Marked form t t₀ → Even m n (step_in l c m t) (step_in l c n t)
       unfolding step_in

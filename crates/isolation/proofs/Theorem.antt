@@ -16,15 +16,14 @@ use Rattle.isa.specs.DeviceInput.{input_run_call}
 use Rattle.isa.specs.Isolation.{start_pcr, start_form, reachable, writable, differs, differing_below}
 use Rattle.isa.specs.declared.machine.State.{State}
 use Rattle.isa.specs.declared.answer.Refusal.{Refusal}
-use Rattle.isa.specs.declared.answer.Answer.{Answer}
-use Rattle.isa.specs.declared.answer.Answer.TheVariants.{Done, Refused}
-use Rattle.isa.specs.declared.answer.RunAnswer.TheVariants.{Refused as RunRefused}
 use Rattle.isolation.specs.Statement.{Starts, Isolated, RefusedAlike, IsolatedRuns, RefusedRuns, without_input}
 use Rattle.isa.proofs.Tests.{no_both}
 use Rattle.isa.proofs.Marks.{same_entry}
 use Rattle.isa.proofs.Permits.{writing_permitted}
 use Rattle.isolation.proofs.Memories.{Agree, EvenMemories}
 use Rattle.isolation.proofs.Inputs.{EvenInputRun, input_run_even}
+use Rattle.std.specs.declared.result.Result.TheVariants.{Ok, Err}
+use Rattle.isa.specs.Answers.{Answer}
 
 -- the answer to a start depends on memory's size alone
 answer_same : (s : State) (t m n : List ℕ) → length m ≡ length n → state_answer s m t ≡ state_answer s n t
@@ -115,8 +114,8 @@ module _ (s : State) (t : List ℕ) where
 
   -- a refused call leaves everything as it came
   refused_isolated : (m n : List ℕ) (x : Refusal)
-      → Isolated s t m n (record { answer = RunRefused x; told = []; state = s; memory = m; tables = t })
-      (record { answer = RunRefused x; told = []; state = s; memory = n; tables = t })
+      → Isolated s t m n (record { answer = Err x; told = []; state = s; memory = m; tables = t })
+      (record { answer = Err x; told = []; state = s; memory = n; tables = t })
   refused_isolated m n x = record {
     answer = refl;
     told = refl;
@@ -141,14 +140,14 @@ isolation c gs s t m n h =
     agree = record { size = h.alike.size; same = h.alike.same }
 
     go : (x : Answer) → Isolated s t m n (input_run_call_by x c gs s m t) (input_run_call_by x c gs s n t)
-    go Done =
+    go (Ok _) =
         even_isolated s t m n (input_run_from c gs 0 s m t) (input_run_from c gs 0 s n t) agree
         (input_run_even (start_form s) t (normal_table_of (start_pcr s)) (alternate_table_of (start_pcr s))
         (ring_of (start_pcr s)) h.ring_low c gs 0 s m n t
         (record { paging_on = h.paging_on; entries = refl; ring_low = le_refl _; normal = refl; alternate = refl })
         agree
         (λ i. same_entry (entry_at (start_form s) t i)))
-    go (Refused x) = refused_isolated s t m n x
+    go (Err x) = refused_isolated s t m n x
 
 -- Two starts that are refused, with equally much memory and equal in all but memory's words, get the same refusal and
 -- stay.
@@ -164,8 +163,8 @@ unfolding input_run_call run_call
 without_input_law c s m t = go (state_answer s m t)
   where
     go : (x : Answer) → input_run_call_by x c [] s m t ≡ without_input (run_call_by x true c s m t)
-    go Done = ap (λ (k : ℕ). input_ran_call (alone (run_from true k 0 s m t))) (sub-zero c)
-    go (Refused x) = refl
+    go (Ok _) = ap (λ (k : ℕ). input_ran_call (alone (run_from true k 0 s m t))) (sub-zero c)
+    go (Err x) = refl
 
 pub isolation_without_input : (c : ℕ) (s : State) (t m n : List ℕ) → Starts s t m n
     → Isolated s t m n (without_input (run_call true c s m t)) (without_input (run_call true c s n t))
@@ -174,7 +173,7 @@ isolation_without_input c s t m n h =
     (subst (Isolated s t m n (input_run_call c [] s m t)) (without_input_law c s n t) (isolation c [] s t m n h))
 
 pub refused_without_input : (c : ℕ) (s : State) (t m n : List ℕ) (x : Refusal) → length m ≡ length n
-    → state_answer s m t ≡ Refused x
+    → state_answer s m t ≡ Err x
     → RefusedAlike s t m n x (without_input (run_call true c s m t)) (without_input (run_call true c s n t))
 refused_without_input c s t m n x h e =
     let r = refused_alike c [] s t m n x h e in

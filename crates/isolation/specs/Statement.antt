@@ -9,8 +9,7 @@ use Rattle.isa.specs.Isolation.{AlikeStarts, MarksAlone, start_pcr, start_form, 
 use Rattle.isa.specs.Isolation.{differing_words}
 use Rattle.isa.specs.declared.machine.State.{State}
 use Rattle.isa.specs.declared.answer.Refusal.{Refusal}
-use Rattle.isa.specs.declared.answer.RunAnswer.TheVariants.{Refused}
-use Rattle.isa.specs.declared.answer.Answer.TheVariants.{Refused as StartRefused}
+use Rattle.std.specs.declared.result.Result.TheVariants.{Err}
 
 -- The starts: one state s, devices included, and one set of page tables t, with the memories m and n. Document 02, card
 -- 1: "A comparison of two runs now starts with both devices alike, gives them the same raises, ticks and typed
@@ -61,8 +60,8 @@ pub record Isolated (s : State) (t m n : List ℕ) (r q : InputRunCall) : Type 0
 -- each stays as it came": the calls r and q with the refusal x. No input was handed in; ruling 7.4: "A refused run
 -- tells no sum."
 pub record RefusedAlike (s : State) (t m n : List ℕ) (x : Refusal) (r q : InputRunCall) : Type 0 where
-  pub left : r ≡ record { answer = Refused x; told = []; state = s; memory = m; tables = t }
-  pub right : q ≡ record { answer = Refused x; told = []; state = s; memory = n; tables = t }
+  pub left : r ≡ record { answer = Err x; told = []; state = s; memory = m; tables = t }
+  pub right : q ≡ record { answer = Err x; told = []; state = s; memory = n; tables = t }
 
 -- THE CLAIM, of two whole runs: for any number of steps c, 0 included, and any device input gs, one for both
 abbrev pub IsolatedRuns : Type 0
@@ -74,7 +73,7 @@ IsolatedRuns =
 abbrev pub RefusedRuns : Type 0
 RefusedRuns =
     (c : ℕ) (gs : List Given) (s : State) (t m n : List ℕ) (x : Refusal) → length m ≡ length n
-    → state_answer s m t ≡ StartRefused x
+    → state_answer s m t ≡ Err x
     → RefusedAlike s t m n x (input_run_call c gs s m t) (input_run_call c gs s n t)
 
 -- a run without device input: nothing was handed in, so nothing told

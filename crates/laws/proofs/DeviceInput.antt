@@ -10,11 +10,11 @@ use Rattle.isa.specs.Machine.{sizes_fit}
 use Rattle.isa.specs.Run.{Run, run_from}
 use Rattle.isa.specs.Answers.{state_answer, raise_call, tick_call, type_call, read_out_call, run_call_by, run_call}
 use Rattle.isa.specs.DeviceInput.{alone, input_ran_call, input_run_call_by, input_run_call}
-use Rattle.isa.specs.declared.answer.Answer.{Answer}
-use Rattle.isa.specs.declared.answer.Answer.TheVariants.{Done, Refused}
 use Rattle.isa.proofs.Runs.{run_sum}
 use Rattle.ranges.proofs.Run.{run_sound, run_size}
 use Rattle.laws.specs.Statement.{InputAsOperation, InputWithinRun, NoInputRun, RunInTwo}
+use Rattle.std.specs.declared.result.Result.TheVariants.{Ok, Err}
+use Rattle.isa.specs.Answers.{Answer}
 
 -- no test refuses
 pub input_as_operation : InputAsOperation
@@ -49,8 +49,8 @@ no_input_run n s m t = go (state_answer s m t)
     go : (a : Answer) → input_run_call_by a n [] s m t
         ≡ (let r = run_call_by a true n s m t in
         record { answer = r.answer; told = []; state = r.state; memory = r.memory; tables = r.tables })
-    go Done = ap (λ (j : ℕ). input_ran_call (alone (run_from true j 0 s m t))) whole
-    go (Refused x) = refl
+    go (Ok _) = ap (λ (j : ℕ). input_ran_call (alone (run_from true j 0 s m t))) whole
+    go (Err x) = refl
 
 pub run_in_two : RunInTwo
 run_in_two = run_sum

@@ -4,6 +4,7 @@ use Prim.Native.Nat.{ℕ}
 use native.Mathlib.Omega.{arith}
 use mathlib.Core.Path.{◌≡◌, refl, sym, ap, subst, ◌∙◌}
 use mathlib.Core.Bool.{Bool, true, false, cond}
+use Rattle.std.specs.Prelude.{Option, Some, None}
 use mathlib.Core.List.{List}
 use lib.Dec.{eqb}
 use borrow.Author.Tests.{ne_eqb}
@@ -21,11 +22,10 @@ use Rattle.isa.specs.declared.machine.State.{State}
 use Rattle.isa.specs.declared.machine.Register.TheVariants.{A}
 use Rattle.isa.specs.declared.device.Devices.{Devices}
 use Rattle.isa.specs.declared.device.Line.{Line}
-use Rattle.isa.specs.declared.device.Line.TheVariants.{OutputLine, InputLine, ClockLine, NoLine}
+use Rattle.isa.specs.declared.device.Line.TheVariants.{OutputLine, InputLine, ClockLine}
 use Rattle.isa.specs.declared.instruction.System.{System}
 use Rattle.isa.specs.declared.instruction.System.TheVariants.{Iox, Ioxt, Ident}
-use Rattle.isa.specs.declared.answer.Far.TheVariants.{Nothing}
-use Rattle.isa.specs.declared.answer.SentAnswer.TheVariants.{NoneSent}
+use Rattle.std.specs.declared.option.Option.TheVariants.{None}
 use Rattle.isa.proofs.Tests.{decided}
 use Rattle.ranges.proofs.States.{state_fits, state_range, words_fit}
 use Rattle.ranges.proofs.InputOutput.{read_out_fits}
@@ -37,6 +37,8 @@ use Rattle.laws.proofs.Registers.{register_before, register_after}
 use Rattle.laws.proofs.Stages.{executed_step}
 use Rattle.laws.proofs.Steady.{ReachesDevices, iox, ioxt, ident, Steady, step_steady}
 use Rattle.laws.proofs.Extended.{none_executed}
+use Rattle.std.specs.declared.result.Result.TheVariants.{Ok}
+use Rattle.std.specs.declared.option.Option.TheVariants.{None}
 
 -- ---- nothing but IOX, IOXT and IDENT changes the devices, and they only where they give no interrupt
 
@@ -102,11 +104,11 @@ ready_while_none_waits s m t l n h =
 -- ---- IDENT
 
 -- the flip-flop that is cleared
-cleared : (d : Devices) (i : Line) → flip_flop (without_asking d i) i ≡ 0
-cleared d OutputLine = refl
-cleared d InputLine = refl
-cleared d ClockLine = refl
-cleared d NoLine = refl
+cleared : (d : Devices) (i : Option Line) → flip_flop (without_asking d i) i ≡ 0
+cleared d (Some OutputLine) = refl
+cleared d (Some InputLine) = refl
+cleared d (Some ClockLine) = refl
+cleared d None = refl
 
 module _ (n : ℕ) (s : State) (m t : List ℕ) (h : Executes (Ident n) s m t) where
   -- the running level with P one further
@@ -123,7 +125,7 @@ module _ (n : ℕ) (s : State) (m t : List ℕ) (h : Executes (Ident n) s m t) w
   -- the step of one that is answered, and of one that is not
   answered_step : asks ≡ true
       → step s m t
-      ≡ counted_turn 1 (settled s (part (identified fetched_next (line_of n)) 0 Nothing m (fetched_tables s m t)))
+      ≡ counted_turn 1 (settled s (part (identified fetched_next (line_of n)) 0 None m (fetched_tables s m t)))
   unfolding ident_stage
   answered_step e = executed_step h ∙ rw (same_asks ∙ e)
 
@@ -192,7 +194,7 @@ second_ident n s m t h again =
 
 -- a machine that is not refused, and of which no character waits
 none_waits : (s : State) (m t : List ℕ) → sizes_fit m t ≡ true → in_range s ≡ true → waits s ≡ false
-    → read_out_call s m t ≡ record { answer = NoneSent; state = s }
+    → read_out_call s m t ≡ record { answer = Ok None; state = s }
 unfolding read_out_call state_answer
 none_waits s m t sizes range e = rw (sizes, range, e)
 
@@ -207,9 +209,9 @@ read_out_once s m t typed sizes range =
     let f = state_fits s typed range in
     let k : Control = read_out (control_of s) in
     let left = state_range (with_control_words s k) (words_fit f (read_out_fits f.control)) in
-    subst None (sym (left_by_read_out s m t sizes range))
-    (decided None (waits s) (λ e. none_waits (with_control_words s k) m t sizes left refl)
+    subst Unanswered (sym (left_by_read_out s m t sizes range))
+    (decided Unanswered (waits s) (λ e. none_waits (with_control_words s k) m t sizes left refl)
     (none_waits s m t sizes range))
   where
-    None : State → Type 0
-    None x = read_out_call x m t ≡ record { answer = NoneSent; state = x }
+    Unanswered : State → Type 0
+    Unanswered x = read_out_call x m t ≡ record { answer = Ok None; state = x }

@@ -15,7 +15,7 @@ use borrow.Author.Tests.{lt-ltb}
 use Rattle.isa.specs.Machine.{word_range, level_count, register_words, bit, ring_of, core_of, with_control, next, next_core}
 use Rattle.isa.specs.Machine.{control_of, put_file}
 use Rattle.isa.specs.System.{with_extended}
-use Rattle.isa.specs.Pages.{in_window, translate, fault_of}
+use Rattle.isa.specs.Pages.{in_window, translate, fault_number}
 use Rattle.isa.specs.Physical.{physical_place}
 use Rattle.isa.specs.Step.{Turn, part, counted_turn, interrupted, with_pgs, faulted, far_stage, settled, is_stopped}
 use Rattle.isa.specs.Step.{change_due, step}
@@ -28,8 +28,8 @@ use Rattle.isa.specs.declared.machine.State.{State}
 use Rattle.isa.specs.declared.instruction.ControlOp.TheVariants.{Sex, Rex}
 use Rattle.isa.specs.declared.instruction.System.{System}
 use Rattle.isa.specs.declared.instruction.System.TheVariants.{Control as ControlOf}
-use Rattle.isa.specs.declared.access.Translation.{Translation}
-use Rattle.isa.specs.declared.answer.Far.TheVariants.{Nothing}
+use Rattle.isa.specs.declared.access.Fault.{Fault}
+use Rattle.std.specs.declared.option.Option.TheVariants.{None}
 use Rattle.isa.proofs.Tests.{either, decided, no_both}
 use Rattle.laws.specs.Statement.{fetch_outcome, fetch_ring, fetched_core, fetched_tables, Executes}
 use Rattle.laws.specs.Statement.{ExtendedStays, LowRingKeepsExtended, LowRingRunKeepsExtended}
@@ -124,10 +124,10 @@ interrupted_low : (k₀ : Control) (n : ℕ) (k : Control) → LowControl k₀ k
 unfolding interrupted
 interrupted_low k₀ n k h = either (LowControl k₀) (eqb (bit n k.iie) 1) h h
 
-faulted_low : (k₀ : Control) (y : Translation) (c : Core) → Low k₀ c → Low k₀ (faulted y c)
+faulted_low : (k₀ : Control) (y : Fault) (c : Core) → Low k₀ c → Low k₀ (faulted y c)
 unfolding faulted
 faulted_low k₀ y c h =
-    record { ring = h.ring; control = interrupted_low k₀ (fault_of y) (with_pgs c.control y) h.control }
+    record { ring = h.ring; control = interrupted_low k₀ (fault_number y) (with_pgs c.control y) h.control }
 
 low_keeping : (k₀ : Control) → Keeping (Low k₀) (LowState k₀) (λ n. Unit {0})
 low_keeping k₀ = record {
@@ -174,7 +174,7 @@ low_ring_run_keeps_devices s m t n on low =
 switch_leaves : (x : ℕ) (s : State) (m t : List ℕ) → s.level < level_count
     → length s.regs ≡ register_words
     → SetsFlagAlone x s m t (counted_turn 1 (settled s (part (with_control (next_core (fetched_core s m t))
-    (with_extended (fetched_core s m t).control x)) 0 Nothing m (fetched_tables s m t))))
+    (with_extended (fetched_core s m t).control x)) 0 None m (fetched_tables s m t))))
 unfolding settled far_stage
 switch_leaves x s m t l n = record {
   gave = refl;

@@ -4,6 +4,7 @@ use Rattle.isa.specs.Machine.{level_count, register_words}
 use Prim.Native.Nat.{ℕ, ◌<◌}
 use mathlib.Core.Path.{◌≡◌, refl, sym, ap, subst, ◌∙◌}
 use mathlib.Core.Bool.{Bool, true, false, cond}
+use Rattle.std.specs.Prelude.{Option, Some, None}
 use mathlib.Core.List.{List}
 use lib.ListN.{get_or, set, length, length-set}
 use lib.Seq.{set-get_or}
@@ -12,14 +13,14 @@ use Rattle.isa.specs.Machine.{reg, next, next_core, file_at, put_file, core_of, 
 use Rattle.isa.specs.Address.{sum}
 use Rattle.isa.specs.Instructions.{indirect_request, request, complete, Completed}
 use Rattle.isa.specs.Pages.{first_word, translate, marked, test_all, Tested, passes, word_at, words_at, rights_of}
-use Rattle.isa.specs.Physical.{transfer_address, first_place, second_place, first_fault}
+use Rattle.isa.specs.Physical.{transfer_address, transfer_kind, word_addresses, test_physical}
 use Rattle.isa.specs.Isolation.{start_form}
 use Rattle.isa.specs.Step.{Part, Turn, faulted, failed, trapped, finished, operands_tested, operands, indirect_tested}
 use Rattle.isa.specs.Step.{user_stage, physical_address, examined, deposited, transfer_stage, system_stage, privileged}
 use Rattle.isa.specs.Step.{instruction_stage, instruction_of, after_fetch, fetched, fetch_of, step_in, place_of, register_at}
 use Rattle.isa.specs.Step.{block_request, block_failed, block_stored, block_loaded, block_tested, far_stage, settled}
 use Rattle.isa.specs.Step.{device_stage, ident_stage, is_stopped, change_due, step}
-use Rattle.isa.specs.InputOutput.{register_of, answers, line_of, flip_flop}
+use Rattle.isa.specs.InputOutput.{register_of, line_of, flip_flop}
 use Rattle.isa.specs.declared.machine.Control.{Control}
 use Rattle.isa.specs.declared.machine.Core.{Core}
 use Rattle.isa.specs.declared.machine.File.{File}
@@ -37,12 +38,17 @@ use Rattle.isa.specs.declared.instruction.Instruction.TheVariants.{Unprivileged,
 use Rattle.isa.specs.declared.access.Access.{Access}
 use Rattle.isa.specs.declared.access.AccessKind.{AccessKind}
 use Rattle.isa.specs.declared.access.AccessKind.TheVariants.{Read, Write}
-use Rattle.isa.specs.declared.access.Translation.{Translation}
-use Rattle.isa.specs.declared.access.Translation.TheVariants.{OutOfRange}
+use Rattle.std.specs.declared.option.Option.{Option}
+use Rattle.std.specs.declared.option.Option.TheVariants.{None, Some}
+use Rattle.std.specs.declared.result.Result.{Result}
+use Rattle.std.specs.declared.result.Result.TheVariants.{Ok, Err}
+use Rattle.isa.specs.declared.access.Place.{Place}
+use Rattle.isa.specs.declared.access.Fault.{Fault}
+use Rattle.isa.specs.declared.access.Fault.TheVariants.{OutOfRange}
 use Rattle.isa.specs.declared.answer.Far.{Far}
-use Rattle.isa.specs.declared.answer.Far.TheVariants.{Nothing, Call, ReadRegister, WriteRegister, ReadPcr, WritePcr}
+use Rattle.isa.specs.declared.answer.Far.TheVariants.{Call, ReadRegister, WriteRegister, ReadPcr, WritePcr}
 use Rattle.isa.specs.declared.answer.Far.TheVariants.{StoreBlock, LoadBlock}
-use Rattle.isa.proofs.Tests.{either, no_both}
+use Rattle.isa.proofs.Tests.{by_fault, either, no_both}
 use Rattle.isa.proofs.Marks.{Marked, same_entry, mark_keeps}
 use Rattle.isa.proofs.Packing.{put_take}
 use Rattle.isa.proofs.Tables.{Lasting, marked_keeps, tested_keeps}
@@ -80,22 +86,22 @@ module _ (K : List ℕ → Type 0) (flag : ℕ) (mark : Lasting (eqb flag 1) K) 
 
   -- what it leaves where it faults, or leaves a block, which may fault yet; whatever else is left to be done goes with
   -- no fault; g is the interrupt given
-  abbrev LeftBy : File → List ℕ → Core → ℕ → List ℕ → List ℕ → Far → Type 0
-  LeftBy f m c g n t Nothing = is_fault g ≡ true → Left f m c n t
-  LeftBy f m c g n t (Call w) = is_fault g ≡ false
-  LeftBy f m c g n t (ReadRegister l x) = is_fault g ≡ false
-  LeftBy f m c g n t (WriteRegister l x) = is_fault g ≡ false
-  LeftBy f m c g n t ReadPcr = is_fault g ≡ false
-  LeftBy f m c g n t WritePcr = is_fault g ≡ false
-  LeftBy f m c g n t (StoreBlock l) = Left f m c n t × SameForm c
-  LeftBy f m c g n t (LoadBlock l) = Left f m c n t × SameForm c
+  abbrev LeftBy : File → List ℕ → Core → ℕ → List ℕ → List ℕ → Option Far → Type 0
+  LeftBy f m c g n t None = is_fault g ≡ true → Left f m c n t
+  LeftBy f m c g n t (Some (Call w)) = is_fault g ≡ false
+  LeftBy f m c g n t (Some (ReadRegister l x)) = is_fault g ≡ false
+  LeftBy f m c g n t (Some (WriteRegister l x)) = is_fault g ≡ false
+  LeftBy f m c g n t (Some ReadPcr) = is_fault g ≡ false
+  LeftBy f m c g n t (Some WritePcr) = is_fault g ≡ false
+  LeftBy f m c g n t (Some (StoreBlock l)) = Left f m c n t × SameForm c
+  LeftBy f m c g n t (Some (LoadBlock l)) = Left f m c n t × SameForm c
 
   abbrev Leaves : File → List ℕ → Part → Type 0
   Leaves f m r = LeftBy f m r.near.core r.near.gave r.memory r.tables r.near.far
 
   module _ (m : List ℕ) where
     -- a fault by an access, and one that is not
-    failed_leaves : (c : Core) (x : Translation) (t : List ℕ) → K t → Leaves c.file m (failed c x m t)
+    failed_leaves : (c : Core) (x : Fault) (t : List ℕ) → K t → Leaves c.file m (failed c x m t)
     unfolding faulted
     failed_leaves c x t h e = record { file = refl; memory = refl; tables = h }
 
@@ -104,7 +110,7 @@ module _ (K : List ℕ → Type 0) (flag : ℕ) (mark : Lasting (eqb flag 1) K) 
 
     -- ---- an unprivileged instruction: it completes without a fault, or an access failed
 
-    finished_leaves : (c : Core) (t : List ℕ) (xs : List Translation) (d : Completed) (f : File)
+    finished_leaves : (c : Core) (t : List ℕ) (xs : List Place) (d : Completed) (f : File)
         → Leaves f m (finished c m t xs d)
     unfolding finished
     finished_leaves c t xs d f e = no_fault d.error e
@@ -114,9 +120,9 @@ module _ (K : List ℕ → Type 0) (flag : ℕ) (mark : Lasting (eqb flag 1) K) 
     unfolding operands_tested
     operands_tested_leaves c u i r h =
         let d : Completed = complete u c.file i (words_at m r.tables r.places) in
-        either (Leaves (next c.file) m) (passes r.fault)
+        by_fault (Leaves (next c.file) m) r.fault
         (finished_leaves c r.tables r.places d (next c.file))
-        (failed_leaves (next_core c) r.fault r.tables h)
+        (λ x. failed_leaves (next_core c) x r.tables h)
 
     operands_leaves : (c : Core) (t : List ℕ) (u : User) (i : ℕ) → SameForm c → K t
         → Leaves (next c.file) m (operands c m t u i)
@@ -129,9 +135,9 @@ module _ (K : List ℕ → Type 0) (flag : ℕ) (mark : Lasting (eqb flag 1) K) 
         → Leaves (next c.file) m (indirect_tested c m u r)
     unfolding indirect_tested
     indirect_tested_leaves c u r q h =
-        either (Leaves (next c.file) m) (passes r.fault)
+        by_fault (Leaves (next c.file) m) r.fault
         (operands_leaves c r.tables u (get_or (words_at m r.tables r.places) 0 0) q h)
-        (failed_leaves (next_core c) r.fault r.tables h)
+        (λ x. failed_leaves (next_core c) x r.tables h)
 
     user_leaves : (c : Core) (t : List ℕ) (u : User) → SameForm c → K t → Leaves (next c.file) m (user_stage c m t u)
     unfolding user_stage
@@ -159,14 +165,15 @@ module _ (K : List ℕ → Type 0) (flag : ℕ) (mark : Lasting (eqb flag 1) K) 
     transfer_leaves c t o d h =
         let form : Bool = eqb c.control.extended 1 in
         let p : ℕ = transfer_address c.file d in
-        let x = first_fault (first_place form (length m) o p) (second_place form (length m) o p) in
-        either (Leaves c.file m) (passes x) (no_fault false) (failed_leaves c x t h)
+        let r = test_physical t form (length m) (transfer_kind o) (word_addresses o p) in
+        by_fault (Leaves c.file m) r.fault (no_fault false) (λ x. failed_leaves c x t h)
 
-    device_leaves : (c : Core) (t : List ℕ) (r : DeviceRegister) → K t → Leaves c.file m (device_stage c m t r)
+    device_leaves : (c : Core) (t : List ℕ) (r : Option DeviceRegister) → K t → Leaves c.file m (device_stage c m t r)
     unfolding device_stage
-    device_leaves c t r h = either (Leaves c.file m) (answers r) (no_fault false) (trapped_leaves 7 c t h)
+    device_leaves c t (Some r) h = no_fault false
+    device_leaves c t None h = trapped_leaves 7 c t h
 
-    ident_leaves : (c : Core) (t : List ℕ) (i : Line) → K t → Leaves c.file m (ident_stage c m t i)
+    ident_leaves : (c : Core) (t : List ℕ) (i : Option Line) → K t → Leaves c.file m (ident_stage c m t i)
     unfolding ident_stage
     ident_leaves c t i h =
         either (Leaves c.file m) (eqb (flip_flop c.control.devices i) 1) (no_fault false)
@@ -201,25 +208,16 @@ module _ (K : List ℕ → Type 0) (flag : ℕ) (mark : Lasting (eqb flag 1) K) 
     instruction_leaves l c t (Monitor n) q h = refl
     instruction_leaves l c t Illegal q h = trapped_leaves 4 (next_core c) t h
 
-    fetched_leaves : (l : ℕ) (c : Core) (t : List ℕ) (ring : ℕ) (x : Translation) → SameForm c → K t
+    fetched_leaves : (l : ℕ) (c : Core) (t : List ℕ) (ring : ℕ) (x : Result Place Fault) → SameForm c → K t
         → Leaves (fault_file c.file (passes x)) m (fetched l c m t ring x)
     unfolding fetched
-    fetched_leaves l c t ring x q h = go (passes x)
-      where
-        i : Instruction
-        i = instruction_of c (word_at m t x)
-
-        d : Core
-        d = after_fetch c ring x
-
-        form : SameForm d
-        form = ap (λ (k : Control). k.extended) (after_fetch_control c ring x) ∙ q
-
-        go : (b : Bool) → Leaves (fault_file c.file b) m (cond b (instruction_stage l d m t i) (failed c x m t))
-        go true =
-            subst (λ (f : File). Leaves (next f) m (instruction_stage l d m t i)) (after_fetch_file c ring x)
-            (instruction_leaves l d t i form h)
-        go false = failed_leaves c x t h
+    fetched_leaves l c t ring (Ok p) q h =
+        let i = instruction_of c (word_at m t p) in
+        let d = after_fetch c ring p in
+        let form : SameForm d = ap (λ (k : Control). k.extended) (after_fetch_control c ring (Ok p)) ∙ q in
+        subst (λ (f : File). Leaves (next f) m (instruction_stage l d m t i)) (after_fetch_file c ring (Ok p))
+        (instruction_leaves l d t i form h)
+    fetched_leaves l c t ring (Err f) q h = failed_leaves c f t h
 
   step_in_leaves : (l : ℕ) (c : Core) (m t : List ℕ) → SameForm c → K t
       → Leaves (fault_file c.file (passes (translate t (length m) (rights_of c) (fetch_of c)))) m (step_in l c m t)
@@ -245,19 +243,19 @@ module _ (K : List ℕ → Type 0) (flag : ℕ) (mark : Lasting (eqb flag 1) K) 
 
   -- a block: an access failed, and the running level's words, taken out, are put back as they are; or there is no fault
   module _ (s : State) (m : List ℕ) (l : s.level < level_count) (n : length s.regs ≡ register_words) where
-    block_keeps : (x : Translation) (t : List ℕ) → K t → Keeps s.regs m (block_failed s x m t)
+    block_keeps : (x : Fault) (t : List ℕ) → K t → Keeps s.regs m (block_failed s x m t)
     unfolding faulted
     block_keeps x t h e = record { regs = put_take s.regs s.level l n; memory = refl; tables = h }
 
     stored_keeps : (j : ℕ) (r : Tested) → K r.tables → Keeps s.regs m (block_stored s j m r)
     unfolding block_stored
     stored_keeps j r h =
-        either (Keeps s.regs m) (passes r.fault) (no_fault false) (block_keeps r.fault r.tables h)
+        by_fault (Keeps s.regs m) r.fault (no_fault false) (λ x. block_keeps x r.tables h)
 
     loaded_keeps : (j : ℕ) (r : Tested) → K r.tables → Keeps s.regs m (block_loaded s j m r)
     unfolding block_loaded
     loaded_keeps j r h =
-        either (Keeps s.regs m) (passes r.fault) (no_fault false) (block_keeps r.fault r.tables h)
+        by_fault (Keeps s.regs m) r.fault (no_fault false) (λ x. block_keeps x r.tables h)
 
   block_marks : (k : AccessKind) (s : State) (m t : List ℕ) → SameForm (core_of s) → K t
       → K (block_tested k s m t).tables
@@ -288,19 +286,19 @@ module _ (K : List ℕ → Type 0) (flag : ℕ) (mark : Lasting (eqb flag 1) K) 
             let x = k e in
             record { regs = x.regs ∙ regs_all h; memory = x.memory ∙ h.memory; tables = x.tables }
 
-        go : (x : Far) → LeftBy f m r.near.core r.near.gave r.memory r.tables x
+        go : (x : Option Far) → LeftBy f m r.near.core r.near.gave r.memory r.tables x
             → Keeps all m (far_stage s' r.near.gave r.memory r.tables x)
-        go Nothing h = λ e. let x = h e in record { regs = regs_all x; memory = x.memory; tables = x.tables }
-        go (Call w) h = λ e. absurd (no_both (sym h ∙ e))
-        go (ReadRegister j x) h = λ e. absurd (no_both (sym h ∙ e))
-        go (WriteRegister j x) h = λ e. absurd (no_both (sym h ∙ e))
-        go ReadPcr h = λ e. absurd (no_both (sym h ∙ e))
-        go WritePcr h = λ e. absurd (no_both (sym h ∙ e))
-        go (StoreBlock j) (h, q) =
+        go None h = λ e. let x = h e in record { regs = regs_all x; memory = x.memory; tables = x.tables }
+        go (Some (Call w)) h = λ e. absurd (no_both (sym h ∙ e))
+        go (Some (ReadRegister j x)) h = λ e. absurd (no_both (sym h ∙ e))
+        go (Some (WriteRegister j x)) h = λ e. absurd (no_both (sym h ∙ e))
+        go (Some ReadPcr) h = λ e. absurd (no_both (sym h ∙ e))
+        go (Some WritePcr) h = λ e. absurd (no_both (sym h ∙ e))
+        go (Some (StoreBlock j)) (h, q) =
             before (block_stored s' j r.memory (block_tested Write s' r.memory r.tables)) h
             (stored_keeps s' r.memory l (ap length (regs_all h) ∙ n) j _
             (block_marks Write s' r.memory r.tables q h.tables))
-        go (LoadBlock j) (h, q) =
+        go (Some (LoadBlock j)) (h, q) =
             before (block_loaded s' j r.memory (block_tested Read s' r.memory r.tables)) h
             (loaded_keeps s' r.memory l (ap length (regs_all h) ∙ n) j _
             (block_marks Read s' r.memory r.tables q h.tables))

@@ -6,34 +6,33 @@ use lib.Dec.{ltb, eqb}
 use borrow.Author.Tests.{ltb-true}
 use Rattle.isa.specs.Machine.{ring_of, with_pcr}
 use Rattle.isa.specs.Pages.{lowered_pcr, lowered}
-use Rattle.isa.specs.Step.{after_fetch}
 use Rattle.isa.specs.declared.machine.Core.{Core}
-use Rattle.isa.specs.declared.access.Translation.{Translation}
-use Rattle.isa.specs.declared.access.Translation.TheVariants.{NoAccess, Load, Store, LoadTable, StoreTable, Protection}
-use Rattle.isa.specs.declared.access.Translation.TheVariants.{PageFault, OutOfRange}
+use Rattle.std.specs.declared.result.Result.{Result}
+use Rattle.std.specs.declared.result.Result.TheVariants.{Ok, Err}
+use Rattle.isa.specs.declared.access.Place.{Place}
+use Rattle.isa.specs.declared.access.Place.TheVariants.{Load, Store, LoadTable, StoreTable}
+use Rattle.isa.specs.declared.access.Fault.{Fault}
 use Rattle.isa.proofs.Tests.{either, decided}
+use Rattle.laws.specs.Statement.{after_outcome}
 
-module _ (c : Core) (ring : ℕ) (x : Translation) where
+module _ (c : Core) (ring : ℕ) (x : Result Place Fault) where
   -- what a lower ring keeps, a fetch keeps
   pub fetch_keeps : (K : Core → Type 0)
-      → (ring < ring_of c.pcr → K (with_pcr c (lowered_pcr c.pcr ring))) → K c → K (after_fetch c ring x)
+      → (ring < ring_of c.pcr → K (with_pcr c (lowered_pcr c.pcr ring))) → K c → K (after_outcome c ring x)
   unfolding lowered
   fetch_keeps K low h = go x
     where
-      go : (y : Translation) → K (after_fetch c ring y)
-      go NoAccess = h
-      go (Load p) =
+      go : (y : Result Place Fault) → K (after_outcome c ring y)
+      go (Ok (Load p)) =
           either K (eqb c.control.paging 1)
           (decided K (ltb ring (ring_of c.pcr)) (λ e. low (ltb-true ring (ring_of c.pcr) e)) (λ e. h)) h
-      go (Store p) = h
-      go (LoadTable i) = h
-      go (StoreTable i) = h
-      go (Protection g) = h
-      go (PageFault g) = h
-      go OutOfRange = h
+      go (Ok (Store p)) = h
+      go (Ok (LoadTable i)) = h
+      go (Ok (StoreTable i)) = h
+      go (Err f) = h
 
-  pub after_fetch_file : (after_fetch c ring x).file ≡ c.file
+  pub after_fetch_file : (after_outcome c ring x).file ≡ c.file
   after_fetch_file = fetch_keeps (λ d. d.file ≡ c.file) (λ l. refl) refl
 
-  pub after_fetch_control : (after_fetch c ring x).control ≡ c.control
+  pub after_fetch_control : (after_outcome c ring x).control ≡ c.control
   after_fetch_control = fetch_keeps (λ d. d.control ≡ c.control) (λ l. refl) refl

@@ -29,16 +29,11 @@ use Rattle.isa.specs.declared.answer.Refusal.{Refusal}
 use Rattle.isa.specs.declared.answer.Refusal.TheVariants.{Sizes, State as StateRange, RaiseLevel, Contents, Kind}
 use Rattle.isa.specs.declared.answer.Refusal.TheVariants.{Target as TargetSize, Overlap, Bodies, View, Output}
 use Rattle.isa.specs.declared.answer.Refusal.TheVariants.{Unread}
-use Rattle.isa.specs.declared.answer.StepAnswer.{StepAnswer}
-use Rattle.isa.specs.declared.answer.StepAnswer.TheVariants.{Stepped, Refused as StepRefused}
-use Rattle.isa.specs.declared.answer.RunAnswer.{RunAnswer}
-use Rattle.isa.specs.declared.answer.RunAnswer.TheVariants.{Ran, Refused as RunRefused}
-use Rattle.isa.specs.declared.answer.SentAnswer.{SentAnswer}
-use Rattle.isa.specs.declared.answer.SentAnswer.TheVariants.{Sent, NoneSent, Refused as SentRefused}
-use Rattle.isa.specs.declared.answer.Answer.{Answer}
-use Rattle.isa.specs.declared.answer.Answer.TheVariants.{Done, Refused}
 use Rattle.isa.proofs.Refusals.{refusal_at, refusal_again, refusal_above, decides}
 use Rattle.laws.specs.Statement.{NumbersDecide, CallsTell}
+use Rattle.std.specs.declared.result.Result.TheVariants.{Ok, Err}
+use Rattle.std.specs.declared.option.Option.TheVariants.{Some, None}
+use Rattle.isa.specs.Answers.{Answer, StepAnswer, RunAnswer, SentAnswer}
 
 -- ---- number and values determine the answer: it can be made of them again
 
@@ -52,38 +47,41 @@ reason_again Spent = refl
 reason_again Interrupt = refl
 
 abbrev answer_at : Told → Answer
-answer_at r = cond (eqb r.number 0) Done (Refused (refusal_at r.number))
+answer_at r = cond (eqb r.number 0) (Ok tt) (Err (refusal_at r.number))
 
 answer_again : (a : Answer) → answer_at (answer_numbers a) ≡ a
-answer_again Done = refl
-answer_again (Refused x) = rw (refusal_above x) (ap Refused (refusal_again x))
+answer_again (Ok _) = refl
+answer_again (Err x) = rw (refusal_above x) (ap Err (refusal_again x))
 
 abbrev step_at : Told → StepAnswer
-step_at r = cond (eqb r.number 0) (Stepped (get_or r.values 0 0)) (StepRefused (refusal_at r.number))
+step_at r = cond (eqb r.number 0) (Ok (get_or r.values 0 0)) (Err (refusal_at r.number))
 
 step_again : (a : StepAnswer) → step_at (step_numbers a) ≡ a
-step_again (Stepped n) = refl
-step_again (StepRefused x) = rw (refusal_above x) (ap StepRefused (refusal_again x))
+step_again (Ok n) = refl
+step_again (Err x) = rw (refusal_above x) (ap Err (refusal_again x))
 
 abbrev run_at : Told → RunAnswer
 run_at r =
-    cond (eqb r.number 0) (Ran (get_or r.values 0 0) (reason_at (get_or r.values 1 0)) (get_or r.values 2 0))
-    (RunRefused (refusal_at r.number))
+    let v = r.values in
+    cond (eqb r.number 0)
+    (Ok (record { steps = get_or v 0 0; reason = reason_at (get_or v 1 0); references = get_or v 2 0 }))
+    (Err (refusal_at r.number))
 
 run_again : (a : RunAnswer) → run_at (run_numbers a) ≡ a
-run_again (Ran k w g) = ap (λ (v : Reason). Ran k v g) (reason_again w)
-run_again (RunRefused x) = rw (refusal_above x) (ap RunRefused (refusal_again x))
+run_again (Ok r) =
+    ap (λ (w : Reason). Ok (record { steps = r.steps; reason = w; references = r.references })) (reason_again r.reason)
+run_again (Err x) = rw (refusal_above x) (ap Err (refusal_again x))
 
 -- of a read out, none is told apart from a character by having no value
 abbrev sent_at : Told → SentAnswer
 sent_at r =
-    cond (eqb r.number 0) (cond (eqb (length r.values) 0) NoneSent (Sent (get_or r.values 0 0)))
-    (SentRefused (refusal_at r.number))
+    cond (eqb r.number 0) (cond (eqb (length r.values) 0) (Ok None) (Ok (Some (get_or r.values 0 0))))
+    (Err (refusal_at r.number))
 
 sent_again : (a : SentAnswer) → sent_at (sent_numbers a) ≡ a
-sent_again (Sent w) = refl
-sent_again NoneSent = refl
-sent_again (SentRefused x) = rw (refusal_above x) (ap SentRefused (refusal_again x))
+sent_again (Ok (Some w)) = refl
+sent_again (Ok None) = refl
+sent_again (Err x) = rw (refusal_above x) (ap Err (refusal_again x))
 
 pub numbers_decide : NumbersDecide
 numbers_decide = record {
@@ -99,8 +97,8 @@ numbers_decide = record {
 
 -- what is told after an answer: its refusal, or what comes after it
 abbrev after : Answer → Told → Told
-after Done r = r
-after (Refused x) r = answer_numbers (Refused x)
+after (Ok _) r = r
+after (Err x) r = answer_numbers (Err x)
 
 -- the tests 1 and 2, and others after them
 state_tells : (s : State) (m t : List ℕ) (xs : List (Bool × ℕ)) (vs : List ℕ)
@@ -108,7 +106,7 @@ state_tells : (s : State) (m t : List ℕ) (xs : List (Bool × ℕ)) (vs : List 
 unfolding state_answer
 state_tells s m t xs vs = go (sizes_fit m t) (in_range s)
   where
-    go : (x y : Bool) → after (cond (not x) (Refused Sizes) (cond (not y) (Refused StateRange) Done)) (tells_by xs vs)
+    go : (x y : Bool) → after (cond (not x) (Err Sizes) (cond (not y) (Err StateRange) (Ok tt))) (tells_by xs vs)
         ≡ tells_by ((not x, 1) ∷ (not y, 2) ∷ xs) vs
     go true true = refl
     go true false = refl
@@ -119,8 +117,8 @@ unfolding step_call step_told
 step_tells s m t = go (state_answer s m t) ∙ state_tells s m t [] ((step s m t).gave ∷ [])
   where
     go : (a : Answer) → step_numbers (step_call_by a s m t).answer ≡ after a (tells_by [] ((step s m t).gave ∷ []))
-    go Done = refl
-    go (Refused x) = refl
+    go (Ok _) = refl
+    go (Err x) = refl
 
 run_tells : (first : Bool) (n : ℕ) (s : State) (m t : List ℕ)
     → run_numbers (run_call first n s m t).answer ≡ run_told first n s m t
@@ -134,12 +132,12 @@ run_tells first n s m t = go (state_answer s m t) ∙ state_tells s m t [] value
     values = r.steps ∷ reason_number r.reason ∷ r.references ∷ []
 
     go : (a : Answer) → run_numbers (run_call_by a first n s m t).answer ≡ after a (tells_by [] values)
-    go Done = refl
-    go (Refused x) = refl
+    go (Ok _) = refl
+    go (Err x) = refl
 
 -- one test more, by an answer
 one_more : (b : Bool) (x : Refusal)
-    → answer_numbers (cond b (Refused x) Done) ≡ tells_by ((b, refusal_number x) ∷ []) []
+    → answer_numbers (cond b (Err x) (Ok tt)) ≡ tells_by ((b, refusal_number x) ∷ []) []
 one_more true x = refl
 one_more false x = refl
 
@@ -147,37 +145,37 @@ raise_tells : (s : State) (l : ℕ) (m t : List ℕ) → answer_numbers (raise_c
 unfolding raise_call raise_told
 raise_tells s l m t = go (state_answer s m t) ∙ state_tells s m t ((not (device_level l), 3) ∷ []) []
   where
-    level : (b : Bool) → answer_numbers (raise_call_by (cond b Done (Refused RaiseLevel)) s l).answer
+    level : (b : Bool) → answer_numbers (raise_call_by (cond b (Ok tt) (Err RaiseLevel)) s l).answer
         ≡ tells_by ((not b, 3) ∷ []) []
     level true = refl
     level false = refl
 
     go : (a : Answer) → answer_numbers (raise_call_by (level_answer l a) s l).answer
         ≡ after a (tells_by ((not (device_level l), 3) ∷ []) [])
-    go Done = level (device_level l)
-    go (Refused x) = refl
+    go (Ok _) = level (device_level l)
+    go (Err x) = refl
 
 tick_tells : (s : State) (m t : List ℕ) → answer_numbers (tick_call s m t).answer ≡ tick_told s m t
 unfolding tick_call tick_told
 tick_tells s m t = go (state_answer s m t) ∙ state_tells s m t [] []
   where
     go : (a : Answer) → answer_numbers (tick_call_by a s).answer ≡ after a (tells_by [] [])
-    go Done = refl
-    go (Refused x) = refl
+    go (Ok _) = refl
+    go (Err x) = refl
 
 type_tells : (s : State) (w : ℕ) (m t : List ℕ) → answer_numbers (type_call s w m t).answer ≡ type_told s m t
 unfolding type_call type_told
 type_tells s w m t = go (state_answer s m t) ∙ state_tells s m t ((is_unread s, 11) ∷ []) []
   where
-    unread : (b : Bool) → answer_numbers (type_call_by (cond b (Refused Unread) Done) s w).answer
+    unread : (b : Bool) → answer_numbers (type_call_by (cond b (Err Unread) (Ok tt)) s w).answer
         ≡ tells_by ((b, 11) ∷ []) []
     unread true = refl
     unread false = refl
 
     go : (a : Answer) → answer_numbers (type_call_by (unread_answer s a) s w).answer
         ≡ after a (tells_by ((is_unread s, 11) ∷ []) [])
-    go Done = unread (is_unread s)
-    go (Refused x) = refl
+    go (Ok _) = unread (is_unread s)
+    go (Err x) = refl
 
 read_out_tells : (s : State) (m t : List ℕ) → sent_numbers (read_out_call s m t).answer ≡ read_out_told s m t
 unfolding read_out_call read_out_told
@@ -189,13 +187,13 @@ read_out_tells s m t = go (state_answer s m t) ∙ state_tells s m t [] (values 
     values : Bool → List ℕ
     values b = cond b (w ∷ []) []
 
-    sent : (b : Bool) → sent_numbers (cond b (Sent w) NoneSent) ≡ tells_by [] (values b)
+    sent : (b : Bool) → sent_numbers (cond b (Ok (Some w)) (Ok None)) ≡ tells_by [] (values b)
     sent true = refl
     sent false = refl
 
     go : (a : Answer) → sent_numbers (read_out_call_by a s).answer ≡ after a (tells_by [] (values (waits s)))
-    go Done = sent (waits s)
-    go (Refused x) = refl
+    go (Ok _) = sent (waits s)
+    go (Err x) = refl
 
 input_run_tells : (n : ℕ) (gs : List Given) (s : State) (m t : List ℕ)
     → run_numbers (input_run_call n gs s m t).answer ≡ input_run_told n gs s m t
@@ -209,8 +207,8 @@ input_run_tells n gs s m t = go (state_answer s m t) ∙ state_tells s m t [] va
     values = r.steps ∷ reason_number r.reason ∷ r.references ∷ []
 
     go : (a : Answer) → run_numbers (input_run_call_by a n gs s m t).answer ≡ after a (tells_by [] values)
-    go Done = refl
-    go (Refused x) = refl
+    go (Ok _) = refl
+    go (Err x) = refl
 
 write_tells : (s : State) (m t out : List ℕ) → answer_numbers (write_answer s m t out) ≡ write_told s m t out
 unfolding write_answer write_told
@@ -218,14 +216,14 @@ write_tells s m t out = go (state_answer s m t) ∙ state_tells s m t ((ltb (len
   where
     go : (a : Answer) → answer_numbers (output_answer m out a)
         ≡ after a (tells_by ((ltb (length out) (image_size m), 10) ∷ []) [])
-    go Done = one_more (ltb (length out) (image_size m)) Output
-    go (Refused x) = refl
+    go (Ok _) = one_more (ltb (length out) (image_size m)) Output
+    go (Err x) = refl
 
 view_tells : (k : Target) (a n : ℕ) (m t : List ℕ) → answer_numbers (view_answer k a n m t) ≡ view_told k a n m t
 unfolding view_answer view_told
 view_tells k a n m t = go (sizes_fit m t) (ltb (length (target_of k m t)) (a + n))
   where
-    go : (x y : Bool) → answer_numbers (cond (not x) (Refused Sizes) (cond y (Refused View) Done))
+    go : (x y : Bool) → answer_numbers (cond (not x) (Err Sizes) (cond y (Err View) (Ok tt)))
         ≡ tells_by ((not x, 1) ∷ (y, 9) ∷ []) []
     go true y = one_more y View
     go false y = refl
@@ -245,7 +243,7 @@ entries_tell words seen (e ∷ es) xs =
     ys = entry_tests words (e ∷ seen) es ++ xs
 
     go : (x y z : Bool) → after a (tells_by xs []) ≡ tells_by ys []
-        → after (cond x (Refused Kind) (cond y (Refused TargetSize) (cond z (Refused Overlap) a))) (tells_by xs [])
+        → after (cond x (Err Kind) (cond y (Err TargetSize) (cond z (Err Overlap) a))) (tells_by xs [])
         ≡ tells_by ((x, 5) ∷ (y, 6) ∷ (z, 7) ∷ ys) []
     go true y z h = refl
     go false true z h = refl
@@ -257,28 +255,28 @@ unfolding load_call load_answer load_told
 load_tells s i m t = by (load_answer i m t) ∙ go (sizes_fit m t) (contents_fit i)
   where
     by : (a : Answer) → answer_numbers (load_call_by a s i m t).answer ≡ answer_numbers a
-    by Done = refl
-    by (Refused x) = refl
+    by (Ok _) = refl
+    by (Err x) = refl
 
     last : List (Bool × ℕ)
     last = (not (eqb (named_words (contents i)) (length (bodies i))), 8) ∷ (not (in_range (loaded_state i)), 2) ∷ []
 
     -- 8, then 2
-    bodies_tell : (x y : Bool) → answer_numbers (cond x (Refused Bodies) (cond y (Refused StateRange) Done))
+    bodies_tell : (x y : Bool) → answer_numbers (cond x (Err Bodies) (cond y (Err StateRange) (Ok tt)))
         ≡ tells_by ((x, 8) ∷ (y, 2) ∷ []) []
     bodies_tell true y = refl
     bodies_tell false true = refl
     bodies_tell false false = refl
 
     then : (a : Answer) → answer_numbers (bodies_answer i a) ≡ after a (tells_by last [])
-    then Done = bodies_tell (not (eqb (named_words (contents i)) (length (bodies i)))) (not (in_range (loaded_state i)))
-    then (Refused x) = refl
+    then (Ok _) = bodies_tell (not (eqb (named_words (contents i)) (length (bodies i)))) (not (in_range (loaded_state i)))
+    then (Err x) = refl
 
     answer : Answer
     answer = entries_answer (length m) [] (contents i)
 
     go : (x y : Bool)
-        → answer_numbers (cond (not x) (Refused Sizes) (cond (not y) (Refused Contents) (bodies_answer i answer)))
+        → answer_numbers (cond (not x) (Err Sizes) (cond (not y) (Err Contents) (bodies_answer i answer)))
         ≡ tells_by ((not x, 1) ∷ (not y, 4) ∷ (entry_tests (length m) [] (contents i) ++ last)) []
     go true true = then answer ∙ entries_tell (length m) [] (contents i) last
     go true false = refl

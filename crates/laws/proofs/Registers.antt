@@ -14,7 +14,7 @@ use Rattle.isa.specs.declared.machine.File.{File}
 use Rattle.isa.specs.declared.machine.State.{State}
 use Rattle.isa.specs.declared.machine.Register.{Register}
 use Rattle.isa.specs.declared.machine.Register.TheVariants.{P}
-use Rattle.isa.specs.declared.answer.Far.TheVariants.{Nothing}
+use Rattle.std.specs.declared.option.Option.TheVariants.{None}
 use Rattle.isa.proofs.Packing.{register_at_law, register_set, take_put}
 
 module _ (b : List ℕ) (l : ℕ) (h : l < level_count) (e : length b ≡ register_words) where
@@ -41,7 +41,7 @@ module _ (s : State) (h : s.level < level_count) (r : Register) where
   register_before = ap (λ (i : ℕ). get_or s.regs i 0) place ∙ register_at_law s.regs s.level r
 
   pub register_after : length s.regs ≡ register_words → (c : Core) (n : ℕ) (m t : List ℕ)
-      → register_at (settled s (part c n Nothing m t)).state s.level r ≡ reg c.file r
+      → register_at (settled s (part c n None m t)).state s.level r ≡ reg c.file r
   unfolding settled far_stage
   register_after e c n m t =
       let b = put_file s.regs s.level c.file in

@@ -10,7 +10,7 @@ use Rattle.isa.specs.Machine.{ring_of, core_of, with_pcr}
 use Rattle.isa.specs.Pages.{lowered_pcr, lowered}
 use Rattle.isa.specs.Step.{privileged, instruction_stage, after_fetch, fetched, step_in, far_stage, settled, step}
 use Rattle.isa.specs.declared.machine.Core.{Core}
-use Rattle.isa.specs.declared.access.Translation.TheVariants.{Load}
+use Rattle.isa.specs.declared.access.Place.TheVariants.{Load}
 use Rattle.isa.proofs.Tests.{decided}
 use Rattle.laws.specs.Statement.{fetch_ring, PrivilegedTrapped}
 

@@ -7,7 +7,7 @@ use mathlib.Core.List.{List}
 use lib.ListN.{length}
 use Rattle.isa.specs.Machine.{core_of, with_core, with_file, next, next_core}
 use Rattle.isa.specs.Instructions.{indirect_request, request, Completed}
-use Rattle.isa.specs.Pages.{test_all, fault_of, passes, word_at, rights_of}
+use Rattle.isa.specs.Pages.{test_all, fault_number, word_at, rights_of}
 use Rattle.isa.specs.Step.{Part, Turn, part, counted, counted_turn, gives, faulted, failed, trapped, finished}
 use Rattle.isa.specs.Step.{operands_tested, operands}
 use Rattle.isa.specs.Step.{indirect_tested, user_stage, system_stage, privileged, instruction_stage, instruction_of}
@@ -20,18 +20,21 @@ use Rattle.isa.specs.declared.instruction.User.{User}
 use Rattle.isa.specs.declared.instruction.System.{System}
 use Rattle.isa.specs.declared.instruction.Instruction.{Instruction}
 use Rattle.isa.specs.declared.instruction.Instruction.TheVariants.{Unprivileged, Privileged, Execute, Monitor, Illegal}
-use Rattle.isa.specs.declared.access.Translation.{Translation}
-use Rattle.isa.specs.declared.answer.Far.TheVariants.{Nothing}
-use Rattle.isa.proofs.Tests.{either, decided}
+use Rattle.std.specs.declared.option.Option.TheVariants.{None}
+use Rattle.std.specs.declared.result.Result.{Result}
+use Rattle.std.specs.declared.result.Result.TheVariants.{Ok, Err}
+use Rattle.isa.specs.declared.access.Place.{Place}
+use Rattle.isa.specs.declared.access.Fault.{Fault}
+use Rattle.isa.proofs.Tests.{either, decided, by_fault}
 use Rattle.isa.proofs.Counts.{counted_turn_twice}
-use Rattle.laws.specs.Statement.{fetch_outcome, fetch_ring, fetched_core, fetched_tables, Executes}
+use Rattle.laws.specs.Statement.{fetch_outcome, fetch_ring, after_outcome, fetched_core, fetched_tables, Executes}
 
 -- In, of the running level, and K, of the state that it is put back into, are kept by new registers, by an interrupt,
 -- and by an access that fails where F holds of its interrupt
 pub record Keeping (In : Core → Type 0) (K : State → Type 0) (F : ℕ → Type 0) : Type 0 where
   pub file : (c : Core) (f : File) → In c → In (with_file c f)
   pub trap : (n : ℕ) (c : Core) → In c → In (gives n c)
-  pub fail : (x : Translation) (c : Core) → In c → F (fault_of x) → In (faulted x c)
+  pub fail : (x : Fault) (c : Core) → In c → F (fault_number x) → In (faulted x c)
   pub back : (s : State) (c : Core) → In c → K (with_core s c)
   pub regs : (s : State) (b : List ℕ) → K s → K (with_regs s b)
 
@@ -46,14 +49,14 @@ module _ (In : Core → Type 0) (K : State → Type 0) (F : ℕ → Type 0) (kee
   counted_keeps n r h = h
 
   -- nothing is left to be done
-  pub done_keeps : (c : Core) (n : ℕ) (m t : List ℕ) → In c → Claim (part c n Nothing m t)
+  pub done_keeps : (c : Core) (n : ℕ) (m t : List ℕ) → In c → Claim (part c n None m t)
   unfolding settled far_stage
   done_keeps c n m t h s f = keep.back s c h
 
   pub trapped_keeps : (n : ℕ) (c : Core) (m t : List ℕ) → In c → Claim (trapped n c m t)
   trapped_keeps n c m t h = done_keeps (gives n c) n m t (keep.trap n c h)
 
-  pub failed_keeps : (c : Core) (x : Translation) (m t : List ℕ) → In c → Claim (failed c x m t)
+  pub failed_keeps : (c : Core) (x : Fault) (m t : List ℕ) → In c → Claim (failed c x m t)
   unfolding settled far_stage
   failed_keeps c x m t h s f = keep.back s (faulted x c) (keep.fail x c h f)
 
@@ -62,7 +65,7 @@ module _ (In : Core → Type 0) (K : State → Type 0) (F : ℕ → Type 0) (kee
   next_keeps : (c : Core) → In c → In (next_core c)
   next_keeps c h = keep.file c (next c.file) h
 
-  finished_keeps : (c : Core) (m t : List ℕ) (xs : List Translation) (d : Completed) → In c
+  finished_keeps : (c : Core) (m t : List ℕ) (xs : List Place) (d : Completed) → In c
       → Claim (finished c m t xs d)
   unfolding finished
   finished_keeps c m t xs d h =
@@ -75,16 +78,16 @@ module _ (In : Core → Type 0) (K : State → Type 0) (F : ℕ → Type 0) (kee
   operands_keeps c m t u i h =
       let r = test_all t (length m) (rights_of c) (request u c.file i) in
       counted_keeps r.made _
-      (either Claim (passes r.fault) (finished_keeps c m r.tables r.places _ h)
-      (failed_keeps (next_core c) r.fault m r.tables (next_keeps c h)))
+      (by_fault Claim r.fault (finished_keeps c m r.tables r.places _ h)
+      (λ x. failed_keeps (next_core c) x m r.tables (next_keeps c h)))
 
   user_keeps : (c : Core) (m t : List ℕ) (u : User) → In c → Claim (user_stage c m t u)
   unfolding user_stage indirect_tested
   user_keeps c m t u h =
       let r = test_all t (length m) (rights_of c) (indirect_request u c.file) in
       counted_keeps r.made _
-      (either Claim (passes r.fault) (operands_keeps c m r.tables u _ h)
-      (failed_keeps (next_core c) r.fault m r.tables (next_keeps c h)))
+      (by_fault Claim r.fault (operands_keeps c m r.tables u _ h)
+      (λ x. failed_keeps (next_core c) x m r.tables (next_keeps c h)))
 
   -- ---- fetch and execute; of a privileged instruction, the claim is supposed
 
@@ -100,15 +103,15 @@ module _ (In : Core → Type 0) (K : State → Type 0) (F : ℕ → Type 0) (kee
       λ s f. keep.regs _ _ (keep.back s (gives 1 (next_core c)) (keep.trap 1 (next_core c) (next_keeps c h)))
   instruction_keeps l c m t Illegal h other = trapped_keeps 4 (next_core c) m t (next_keeps c h)
 
-  fetched_keeps : (l : ℕ) (c : Core) (m t : List ℕ) (ring : ℕ) (x : Translation) → In c → In (after_fetch c ring x)
-      → (passes x ≡ true → (o : System) → instruction_of c (word_at m t x) ≡ Privileged o
-      → privileged (after_fetch c ring x) ≡ true → Claim (system_stage l (next_core (after_fetch c ring x)) m t o))
+  fetched_keeps : (l : ℕ) (c : Core) (m t : List ℕ) (ring : ℕ) (x : Result Place Fault) → In c
+      → In (after_outcome c ring x)
+      → ((p : Place) → x ≡ Ok p → (o : System) → instruction_of c (word_at m t p) ≡ Privileged o
+      → privileged (after_outcome c ring x) ≡ true → Claim (system_stage l (next_core (after_outcome c ring x)) m t o))
       → Claim (fetched l c m t ring x)
   unfolding fetched
-  fetched_keeps l c m t ring x h after other =
-      counted_keeps 1 _
-      (decided Claim (passes x) (λ p. instruction_keeps l (after_fetch c ring x) m t _ after (other p))
-      (λ e. failed_keeps c x m t h))
+  fetched_keeps l c m t ring (Ok p) h after other =
+      counted_keeps 1 _ (instruction_keeps l (after_fetch c ring p) m t _ after (other p refl))
+  fetched_keeps l c m t ring (Err f) h after other = counted_keeps 1 _ (failed_keeps c f m t h)
 
   -- ---- one step
 
@@ -128,7 +131,8 @@ module _ (In : Core → Type 0) (K : State → Type 0) (F : ℕ → Type 0) (kee
         decided Kept (is_stopped s) (λ e f. k)
         (λ runs. decided Kept (change_due s) (λ e f. change e)
         (λ stays. fetched_keeps s.level (core_of s) m (fetched_tables s m t) (fetch_ring s t) x h after
-        (λ p o e q. other o (record { runs = runs; level_stays = stays; passed = p; code = e; permitted = q })) s))
+        (λ p x o e q. other o
+        (record { place = p; runs = runs; level_stays = stays; passed = x; code = e; permitted = q })) s))
 
 -- references before a stage, put back with it
 settled_counted : (n : ℕ) (s : State) (r : Part) → settled s (counted n r) ≡ counted_turn n (settled s r)
@@ -141,4 +145,5 @@ pub executed_step : {o : System} {s : State} {m t : List ℕ} → Executes o s m
     ≡ counted_turn 1 (settled s (system_stage s.level (next_core (fetched_core s m t)) m (fetched_tables s m t) o))
 unfolding step step_in fetched instruction_stage
 executed_step {s} h =
-    rw (h.runs, h.level_stays, h.passed, h.code, h.permitted) (settled_counted 1 s _)
+    let permitted = rw h.passed at h.permitted in
+    rw (h.runs, h.level_stays, h.passed, h.code, permitted) (settled_counted 1 s _)

@@ -8,7 +8,7 @@ use lib.Dec.{eqb}
 use borrow.Author.Tests.{eq-eqb, ne_eqb}
 use Rattle.isa.specs.Machine.{control_of, core_of}
 use Rattle.isa.specs.System.{with_paging_status}
-use Rattle.isa.specs.Pages.{pgs_after, first_status, held_after, fault_of}
+use Rattle.isa.specs.Pages.{pgs_after, first_status, held_after, fault_number}
 use Rattle.isa.specs.Step.{Turn, with_pgs, register_at, far_stage, settled}
 use Rattle.isa.specs.declared.machine.Control.{Control}
 use Rattle.isa.specs.declared.machine.Register.TheVariants.{A}
@@ -17,9 +17,8 @@ use Rattle.isa.specs.declared.instruction.Readable.TheVariants.{Pgs}
 use Rattle.isa.specs.declared.instruction.ControlOp.TheVariants.{Tra}
 use Rattle.isa.specs.declared.instruction.System.{System}
 use Rattle.isa.specs.declared.instruction.System.TheVariants.{Control as ControlOf}
-use Rattle.isa.specs.declared.access.Translation.{Translation}
-use Rattle.isa.specs.declared.access.Translation.TheVariants.{NoAccess, Load, Store, LoadTable, StoreTable, Protection}
-use Rattle.isa.specs.declared.access.Translation.TheVariants.{PageFault, OutOfRange}
+use Rattle.isa.specs.declared.access.Fault.{Fault}
+use Rattle.isa.specs.declared.access.Fault.TheVariants.{Protection, PageFault, OutOfRange}
 use Rattle.isa.proofs.Tests.{either}
 use Rattle.laws.specs.Statement.{fetch_outcome, fetch_ring, fetched_tables, Executes, ReadsPgs, SameStatus}
 use Rattle.laws.specs.Statement.{HeldFaultStays, HeldStatusStays, StatusStays, ReadingReleases, ReadingGives}
@@ -31,12 +30,7 @@ use Rattle.laws.proofs.Steady.{Steady, step_steady, run_steady}
 
 -- ---- an access that fails
 
-held_stays : {n : ℕ} → n ≡ 1 → (x : Translation) → held_after n x ≡ n
-held_stays h NoAccess = refl
-held_stays h (Load p) = refl
-held_stays h (Store p) = refl
-held_stays h (LoadTable i) = refl
-held_stays h (StoreTable i) = refl
+held_stays : {n : ℕ} → n ≡ 1 → (x : Fault) → held_after n x ≡ n
 held_stays h (Protection g) = sym h
 held_stays h (PageFault g) = sym h
 held_stays h OutOfRange = refl
@@ -57,7 +51,7 @@ abbrev IsRead : System → Type 0
 IsRead o = o ≡ ControlOf (Tra Pgs)
 
 status_steady : (k₀ : Control) (F : ℕ → Type 0)
-    → ((k : Control) (x : Translation) → SameStatus k₀ k → F (fault_of x) → SameStatus k₀ (with_pgs k x))
+    → ((k : Control) (x : Fault) → SameStatus k₀ k → F (fault_number x) → SameStatus k₀ (with_pgs k x))
     → Steady (SameStatus k₀) IsRead F
 status_steady k₀ F leaves = record {
   switches = λ k i p h q. q;
@@ -89,26 +83,16 @@ held_status_stays s m t h none =
 abbrev NeitherFault : ℕ → Type 0
 NeitherFault n = (n ≡ 2 → ⊥) × (n ≡ 3 → ⊥)
 
-others_leave : (k₀ k : Control) (x : Translation) → SameStatus k₀ k → NeitherFault (fault_of x)
+others_leave : (k₀ k : Control) (x : Fault) → SameStatus k₀ k → NeitherFault (fault_number x)
     → SameStatus k₀ (with_pgs k x)
 others_leave k₀ k x i f = (either (λ (g : ℕ). g ≡ k₀.pgs) (eqb k.held 1) i.0 (status x f), held x f)
   where
-    status : (x : Translation) → NeitherFault (fault_of x) → pgs_after k.pgs x ≡ k₀.pgs
-    status NoAccess f = i.0
-    status (Load p) f = i.0
-    status (Store p) f = i.0
-    status (LoadTable j) f = i.0
-    status (StoreTable j) f = i.0
+    status : (x : Fault) → NeitherFault (fault_number x) → pgs_after k.pgs x ≡ k₀.pgs
     status (Protection g) f = absurd (f.0 refl)
     status (PageFault g) f = absurd (f.1 refl)
     status OutOfRange f = i.0
 
-    held : (x : Translation) → NeitherFault (fault_of x) → held_after k.held x ≡ k₀.held
-    held NoAccess f = i.1
-    held (Load p) f = i.1
-    held (Store p) f = i.1
-    held (LoadTable j) f = i.1
-    held (StoreTable j) f = i.1
+    held : (x : Fault) → NeitherFault (fault_number x) → held_after k.held x ≡ k₀.held
     held (Protection g) f = absurd (f.0 refl)
     held (PageFault g) f = absurd (f.1 refl)
     held OutOfRange f = i.1

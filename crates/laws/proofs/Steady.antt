@@ -4,15 +4,16 @@ use Prim.Native.Nat.{ℕ, zero, suc, ◌+◌, ◌<◌}
 use native.Mathlib.Omega.{arith}
 use mathlib.Core.Path.{sym, subst}
 use mathlib.Core.Bool.{Bool, not, ◌&&◌}
+use Rattle.std.specs.Prelude.{Option, Some}
 use mathlib.Core.List.{List}
 use lib.ListN.{length}
 use lib.Dec.{ltb, eqb}
 use Rattle.isa.specs.Machine.{bit, with_bit, reg, control_of, core_of}
 use Rattle.isa.specs.System.{with_switches, with_levels, with_internal, with_paging_status, with_extended, with_devices}
 use Rattle.isa.specs.System.{controlled}
-use Rattle.isa.specs.InputOutput.{register_of, answers, exchanged, line_of, flip_flop}
-use Rattle.isa.specs.Pages.{fault_of, passes}
-use Rattle.isa.specs.Physical.{transfer_address, first_place, second_place, first_fault, transfer_made}
+use Rattle.isa.specs.InputOutput.{register_of, exchanged, line_of, flip_flop}
+use Rattle.isa.specs.Pages.{fault_number}
+use Rattle.isa.specs.Physical.{transfer_address, transfer_kind, word_addresses, test_physical}
 use Rattle.isa.specs.Step.{Part, Turn, part, interrupted, with_pgs, faulted, physical_address, examined, deposited}
 use Rattle.isa.specs.Step.{transfer_stage, device_stage, ident_stage, system_stage, far_stage, settled, is_stopped}
 use Rattle.isa.specs.Step.{change_due, level_changed, step}
@@ -26,7 +27,7 @@ use Rattle.isa.specs.declared.device.DeviceRegister.{DeviceRegister}
 use Rattle.isa.specs.declared.device.DeviceRegister.TheVariants.{ClockData, ClockCounter, ClockStatus, ClockControl}
 use Rattle.isa.specs.declared.device.DeviceRegister.TheVariants.{InputData, InputNothing, InputStatus, InputControl}
 use Rattle.isa.specs.declared.device.DeviceRegister.TheVariants.{OutputNothing, OutputData, OutputStatus}
-use Rattle.isa.specs.declared.device.DeviceRegister.TheVariants.{OutputControl, NoRegister}
+use Rattle.isa.specs.declared.device.DeviceRegister.TheVariants.{OutputControl}
 use Rattle.isa.specs.declared.device.Line.{Line}
 use Rattle.isa.specs.declared.instruction.Readable.TheVariants.{Status, Pgs, Pvl, Iic, Pid, Pie, Actl}
 use Rattle.isa.specs.declared.instruction.Writable.TheVariants.{Status as ToStatus, Iie as ToIie, Pid as ToPid}
@@ -39,12 +40,14 @@ use Rattle.isa.specs.declared.instruction.System.{System}
 use Rattle.isa.specs.declared.instruction.System.TheVariants.{Control as ControlOf, TraPgc, TrrPcr, Irr, Irw, Srb, Lrb}
 use Rattle.isa.specs.declared.instruction.System.TheVariants.{Exam, Depo, Physical, Iox, Ioxt, Ident}
 use Rattle.isa.specs.declared.instruction.Transfer.{Transfer}
-use Rattle.isa.specs.declared.access.Translation.{Translation}
-use Rattle.isa.specs.declared.access.Translation.TheVariants.{OutOfRange}
+use Rattle.std.specs.declared.option.Option.{Option}
+use Rattle.std.specs.declared.option.Option.TheVariants.{Some}
+use Rattle.isa.specs.declared.access.Fault.{Fault}
+use Rattle.isa.specs.declared.access.Fault.TheVariants.{OutOfRange}
 use Rattle.isa.specs.declared.answer.Far.{Far}
 use Rattle.isa.specs.declared.answer.Far.TheVariants.{ReadRegister, WriteRegister, ReadPcr, WritePcr, StoreBlock}
 use Rattle.isa.specs.declared.answer.Far.TheVariants.{LoadBlock}
-use Rattle.isa.proofs.Tests.{either}
+use Rattle.isa.proofs.Tests.{by_fault, either}
 use Rattle.isa.proofs.Runs.{run_taken}
 use Rattle.laws.specs.Statement.{fetch_outcome, fetch_ring, Executes, stepped}
 use Rattle.laws.proofs.Far.{settled_keeps}
@@ -65,7 +68,7 @@ pub record Steady (K : Control → Type 0) (Sets : System → Type 0) (F : ℕ �
   pub switches : (k : Control) (i p h : ℕ) → K k → K (with_switches k i p h)
   pub levels : (k : Control) (d e v : ℕ) → K k → K (with_levels k d e v)
   pub internal : (k : Control) (d e : ℕ) → K k → K (with_internal k d e)
-  pub fail : (k : Control) (x : Translation) → K k → F (fault_of x) → K (with_pgs k x)
+  pub fail : (k : Control) (x : Fault) → K k → F (fault_number x) → K (with_pgs k x)
   pub reading : (k : Control) → (Sets (ControlOf (Tra Pgs)) → ⊥) → K k → K (with_paging_status k k.pgs 0)
   pub setting : (k : Control) → (Sets (ControlOf Sex) → ⊥) → K k → K (with_extended k 1)
   pub clearing : (k : Control) → (Sets (ControlOf Rex) → ⊥) → K k → K (with_extended k 0)
@@ -86,9 +89,9 @@ module _ (K : Control → Type 0) (Sets : System → Type 0) (F : ℕ → Type 0
       let d = keep.internal k (with_bit n 1 k.iid) k.iie h in
       either K (eqb (bit n k.iie) 1) (keep.levels _ _ _ _ d) d
 
-  faulted_keeps : (x : Translation) (c : Core) → In c → F (fault_of x) → In (faulted x c)
+  faulted_keeps : (x : Fault) (c : Core) → In c → F (fault_number x) → In (faulted x c)
   unfolding faulted
-  faulted_keeps x c h f = interrupted_keeps (fault_of x) (with_pgs c.control x) (keep.fail c.control x h f)
+  faulted_keeps x c h f = interrupted_keeps (fault_number x) (with_pgs c.control x) (keep.fail c.control x h f)
 
   keeping : Keeping In Of F
   keeping = record {
@@ -153,13 +156,12 @@ module _ (K : Control → Type 0) (Sets : System → Type 0) (F : ℕ → Type 0
   transfer_keeps c m t o d h =
       let form : Bool = eqb c.control.extended 1 in
       let p : ℕ = transfer_address c.file d in
-      let x = first_place form (length m) o p in
-      let z = first_fault x (second_place form (length m) o p) in
-      counted_keeps In Of F keeping (transfer_made o x) _
-      (either Left (passes z) (done_keeps In Of F keeping _ 0 _ _ h) (failed_keeps In Of F keeping c z m t h))
+      let r = test_physical t form (length m) (transfer_kind o) (word_addresses o p) in
+      counted_keeps In Of F keeping r.made _
+      (by_fault Left r.fault (done_keeps In Of F keeping _ 0 _ _ h) (λ x. failed_keeps In Of F keeping c x m t h))
 
   -- with something left to be done
-  far_keeps : (c : Core) (far : Far) (m t : List ℕ) → In c → Left (part c 0 far m t)
+  far_keeps : (c : Core) (far : Option Far) (m t : List ℕ) → In c → Left (part c 0 far m t)
   far_keeps c far m t h s =
       settled_keeps Of F (λ q b i. i) (λ q p i. i) (λ q x i f. faulted_keeps x (core_of q) i f) s (part c 0 far m t) h
 
@@ -178,18 +180,17 @@ module _ (K : Control → Type 0) (Sets : System → Type 0) (F : ℕ → Type 0
     exchanged_keeps c OutputData h = e _ _ _ h
     exchanged_keeps c OutputStatus h = h
     exchanged_keeps c OutputControl h = e _ _ _ h
-    exchanged_keeps c NoRegister h = h
 
   -- .. where no interrupt is given
   abbrev Changes : Type 0
   Changes = F 0 → (k : Control) (p : ℕ) (d : Devices) → K k → K (with_devices k p d)
 
-  device_keeps : (c : Core) (m t : List ℕ) (r : DeviceRegister) → Changes → In c → Left (device_stage c m t r)
+  device_keeps : (c : Core) (m t : List ℕ) (r : Option DeviceRegister) → Changes → In c → Left (device_stage c m t r)
   unfolding device_stage settled far_stage
-  device_keeps c m t r e h =
-      either Left (answers r) (λ s f. exchanged_keeps (e f) c r h) (trapped_keeps In Of F keeping 7 c m t h)
+  device_keeps c m t (Some r) e h = λ s f. exchanged_keeps (e f) c r h
+  device_keeps c m t _ e h = trapped_keeps In Of F keeping 7 c m t h
 
-  ident_keeps : (c : Core) (m t : List ℕ) (i : Line) → Changes → In c → Left (ident_stage c m t i)
+  ident_keeps : (c : Core) (m t : List ℕ) (i : Option Line) → Changes → In c → Left (ident_stage c m t i)
   unfolding ident_stage settled far_stage
   ident_keeps c m t i e h =
       either Left (eqb (flip_flop c.control.devices i) 1) (λ s f. e f _ _ _ h)
@@ -198,12 +199,12 @@ module _ (K : Control → Type 0) (Sets : System → Type 0) (F : ℕ → Type 0
   system_keeps : (l : ℕ) (c : Core) (m t : List ℕ) (o : System) → (Sets o → ⊥) → In c → Left (system_stage l c m t o)
   system_keeps l c m t (ControlOf o) none h =
       done_keeps In Of F keeping (controlled l c o) 0 m t (controlled_keeps l c o none h)
-  system_keeps l c m t TraPgc none h = far_keeps c ReadPcr m t h
-  system_keeps l c m t TrrPcr none h = far_keeps c WritePcr m t h
-  system_keeps l c m t (Irr n r) none h = far_keeps c (ReadRegister n r) m t h
-  system_keeps l c m t (Irw n r) none h = far_keeps c (WriteRegister n r) m t h
-  system_keeps l c m t (Srb n) none h = far_keeps c (StoreBlock n) m t h
-  system_keeps l c m t (Lrb n) none h = far_keeps c (LoadBlock n) m t h
+  system_keeps l c m t TraPgc none h = far_keeps c (Some ReadPcr) m t h
+  system_keeps l c m t TrrPcr none h = far_keeps c (Some WritePcr) m t h
+  system_keeps l c m t (Irr n r) none h = far_keeps c (Some (ReadRegister n r)) m t h
+  system_keeps l c m t (Irw n r) none h = far_keeps c (Some (WriteRegister n r)) m t h
+  system_keeps l c m t (Srb n) none h = far_keeps c (Some (StoreBlock n)) m t h
+  system_keeps l c m t (Lrb n) none h = far_keeps c (Some (LoadBlock n)) m t h
   system_keeps l c m t Exam none h = examined_keeps c m t h
   system_keeps l c m t Depo none h = deposited_keeps c m t h
   system_keeps l c m t (Physical o d) none h = transfer_keeps c m t o d h
@@ -215,10 +216,10 @@ module _ (K : Control → Type 0) (Sets : System → Type 0) (F : ℕ → Type 0
   -- ---- one step
 
   -- no instruction of Sets is executed
-  abbrev None : State → List ℕ → List ℕ → Type 0
-  None s m t = (o : System) → Sets o → Executes o s m t → ⊥
+  abbrev NoneSet : State → List ℕ → List ℕ → Type 0
+  NoneSet s m t = (o : System) → Sets o → Executes o s m t → ⊥
 
-  pub step_steady : (s : State) (m t : List ℕ) → None s m t → Of s → F (step s m t).gave → Of (step s m t).state
+  pub step_steady : (s : State) (m t : List ℕ) → NoneSet s m t → Of s → F (step s m t).gave → Of (step s m t).state
   unfolding level_changed
   step_steady s m t none h =
       let after = subst K (sym (after_fetch_control (core_of s) (fetch_ring s t) (fetch_outcome s m t))) h in
@@ -230,7 +231,7 @@ module _ (K : Control → Type 0) (Sets : System → Type 0) (F : ℕ → Type 0
   -- after k steps, with n to go
   pub run_steady : ((n : ℕ) → F n) → (first : Bool) (n k : ℕ) (s : State) (m t : List ℕ) → Of s
       → ((j : ℕ) → k + j < (run_from first n k s m t).steps
-      → let r = stepped j s m t in None r.state r.memory r.tables)
+      → let r = stepped j s m t in NoneSet r.state r.memory r.tables)
       → Of (run_from first n k s m t).state
   run_steady any first zero k s m t h none =
       let Kept : Run → Type 0 = λ r. Of r.state in
@@ -250,8 +251,8 @@ module _ (K : Control → Type 0) (Sets : System → Type 0) (F : ℕ → Type 0
 
       Kept : Run → Type 0
       Kept q =
-          ((j : ℕ) → k + j < q.steps → let x = stepped j s m t in None x.state x.memory x.tables)
+          ((j : ℕ) → k + j < q.steps → let x = stepped j s m t in NoneSet x.state x.memory x.tables)
           → Of q.state
 
-      once : None s m t → Of r.state
+      once : NoneSet s m t → Of r.state
       once e = step_steady s m t e h (any r.gave)

@@ -10,11 +10,11 @@ use lib.Seq.{length-take-le, get_or-take, get_or-drop}
 use lib.Dec.{ltb}
 use borrow.Author.Tests.{ltb-false}
 use Rattle.isa.specs.Machine.{sizes_fit}
-use Rattle.isa.specs.Answers.{target_of, view_answer, viewed}
+use Rattle.isa.specs.Answers.{Answer, target_of, view_answer, viewed}
 use Rattle.isa.specs.declared.answer.Target.{Target}
-use Rattle.isa.specs.declared.answer.Answer.TheVariants.{Done, Refused}
 use Rattle.isa.specs.declared.answer.Refusal.TheVariants.{Sizes, View}
 use Rattle.laws.specs.Statement.{PartAt, ViewIsPart, RefusedViewEmpty}
+use Rattle.std.specs.declared.result.Result.TheVariants.{Ok, Err}
 
 -- a part of a list
 part_at : (l : List ℕ) (a n : ℕ) → a + n ≤ length l → PartAt l a n (take n (drop a l))
@@ -25,12 +25,12 @@ part_at l a n h = record {
 }
 
 -- a view that is not refused lies in the words named
-view_within : (k : Target) (a n : ℕ) (m t : List ℕ) → view_answer k a n m t ≡ Done → a + n ≤ length (target_of k m t)
+view_within : (k : Target) (a n : ℕ) (m t : List ℕ) → view_answer k a n m t ≡ Ok tt → a + n ≤ length (target_of k m t)
 unfolding view_answer
 view_within k a n m t e =
     ltb-false (length (target_of k m t)) (a + n) (go (sizes_fit m t) (ltb (length (target_of k m t)) (a + n)) e)
   where
-    go : (x y : Bool) → cond (not x) (Refused Sizes) (cond y (Refused View) Done) ≡ Done → y ≡ false
+    go : (x y : Bool) → ◌≡◌ {A = Answer} (cond (not x) (Err Sizes) (cond y (Err View) (Ok tt))) (Ok tt) → y ≡ false
     go true true e = cc
     go true false e = refl
     go false y e = cc

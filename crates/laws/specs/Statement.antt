@@ -30,19 +30,19 @@ use Rattle.isa.specs.declared.instruction.Instruction.{Instruction}
 use Rattle.isa.specs.declared.instruction.Instruction.TheVariants.{Privileged}
 use Rattle.isa.specs.declared.access.AccessKind.{AccessKind}
 use Rattle.isa.specs.declared.access.Rights.{Rights}
-use Rattle.isa.specs.declared.access.Translation.{Translation}
-use Rattle.isa.specs.declared.access.Translation.TheVariants.{Load, Protection, PageFault}
+use Rattle.isa.specs.declared.access.Place.{Place}
+use Rattle.isa.specs.declared.access.Place.TheVariants.{Load}
+use Rattle.isa.specs.declared.access.Fault.{Fault}
+use Rattle.isa.specs.declared.access.Fault.TheVariants.{Protection, PageFault}
 use Rattle.isa.specs.declared.answer.Reason.{Reason}
 use Rattle.isa.specs.declared.answer.Target.{Target}
 use Rattle.isa.specs.declared.answer.Refusal.{Refusal}
-use Rattle.isa.specs.declared.answer.StepAnswer.{StepAnswer}
-use Rattle.isa.specs.declared.answer.RunAnswer.{RunAnswer}
-use Rattle.isa.specs.declared.answer.SentAnswer.{SentAnswer}
-use Rattle.isa.specs.declared.answer.SentAnswer.TheVariants.{NoneSent}
-use Rattle.isa.specs.declared.answer.Answer.{Answer}
-use Rattle.isa.specs.declared.answer.Answer.TheVariants.{Done, Refused}
 use Rattle.isa.specs.declared.device.DeviceInput.TheVariants.{Raise, Tick, Typed as TypedCharacter, ReadOut}
 use Rattle.ranges.specs.Sound.{Sound}
+use Rattle.std.specs.declared.result.Result.{Result}
+use Rattle.std.specs.declared.result.Result.TheVariants.{Ok, Err}
+use Rattle.std.specs.declared.option.Option.TheVariants.{None}
+use Rattle.isa.specs.Answers.{Answer, StepAnswer, RunAnswer, SentAnswer}
 
 -- ---- "So, not stopped and with interrupts on, a raised, enabled level that is highest runs after the next step."
 
@@ -67,7 +67,7 @@ abbrev pub is_fault : ℕ → Bool
 is_fault n = eqb n 2 || eqb n 3 || eqb n 4 || eqb n 6 || eqb n 7 || eqb n 9
 
 -- what comes of the step's fetch
-abbrev pub fetch_outcome : State → List ℕ → List ℕ → Translation
+abbrev pub fetch_outcome : State → List ℕ → List ℕ → Result Place Fault
 fetch_outcome s m t = translate t (length m) (rights_of (core_of s)) (fetch_of (core_of s))
 
 -- P of the running level where the step faults
@@ -99,7 +99,7 @@ pub record Fetches (s : State) (m t : List ℕ) (p : ℕ) : Type 0 where
   pub runs : is_stopped s ≡ false
   pub level_stays : change_due s ≡ false
   pub paging_on : s.control.paging ≡ 1
-  pub passed : fetch_outcome s m t ≡ Load p
+  pub passed : fetch_outcome s m t ≡ Ok (Load p)
 
 -- the ring of that entry, in the normal table
 abbrev pub fetch_ring : State → List ℕ → ℕ
@@ -111,24 +111,31 @@ PrivilegedTrapped =
     (s : State) (m t : List ℕ) (p : ℕ) (o : System) → Fetches s m t p → fetch_ring s t ≤ 1
     → instruction_of (core_of s) (get_or m p 0) ≡ Privileged o → (step s m t).gave ≡ 6
 
--- what the step's fetch leaves: the running level, of which it may lower the ring; the page tables, with its mark
+-- the running level after a fetch: one that passes may lower its ring
+abbrev pub after_outcome : Core → ℕ → Result Place Fault → Core
+after_outcome c ring (Ok p) = after_fetch c ring p
+after_outcome c ring (Err f) = c
+
+-- what the step's fetch leaves: the running level, of which it may lower the ring if it passes; the page tables, with
+-- its mark
 abbrev pub fetched_core : State → List ℕ → List ℕ → Core
-fetched_core s m t = after_fetch (core_of s) (fetch_ring s t) (fetch_outcome s m t)
+fetched_core s m t = after_outcome (core_of s) (fetch_ring s t) (fetch_outcome s m t)
 
 abbrev pub fetched_tables : State → List ℕ → List ℕ → List ℕ
 fetched_tables s m t = marked t (length m) (rights_of (core_of s)) (fetch_of (core_of s))
 
--- the instruction that it fetches, or that an EXR brings in
-abbrev pub fetched_instruction : State → List ℕ → List ℕ → Instruction
-fetched_instruction s m t = instruction_of (core_of s) (word_at m (fetched_tables s m t) (fetch_outcome s m t))
+-- the instruction that it fetches from a place, or that an EXR brings in
+abbrev pub fetched_instruction : State → List ℕ → List ℕ → Place → Instruction
+fetched_instruction s m t p = instruction_of (core_of s) (word_at m (fetched_tables s m t) p)
 
 -- the step executes the privileged instruction o: the machine is not stopped and no change of level is due, the fetch
 -- passes, o is fetched or brought in by an EXR, and the ring that the fetch leaves permits it
 pub record Executes (o : System) (s : State) (m t : List ℕ) : Type 0 where
+  pub place : Place
   pub runs : is_stopped s ≡ false
   pub level_stays : change_due s ≡ false
-  pub passed : passes (fetch_outcome s m t) ≡ true
-  pub code : fetched_instruction s m t ≡ Privileged o
+  pub passed : fetch_outcome s m t ≡ Ok place
+  pub code : fetched_instruction s m t place ≡ Privileged o
   pub permitted : privileged (fetched_core s m t) ≡ true
 
 -- ---- Document 02, card 3: "PGS shall keep the first fault until TRA PGS is executed, and only then take another."
@@ -149,7 +156,7 @@ FirstFaultHeld =
 
 -- .. and while it is held, an access that fails changes neither
 abbrev pub HeldFaultStays : Type 0
-HeldFaultStays = (k : Control) (x : Translation) → k.held ≡ 1 → with_pgs k x ≡ k
+HeldFaultStays = (k : Control) (x : Fault) → k.held ≡ 1 → with_pgs k x ≡ k
 
 -- no step but one that executes TRA PGS changes a held PGS or word 26, whatever else it does
 abbrev pub HeldStatusStays : Type 0
@@ -306,7 +313,7 @@ SecondIdent =
 abbrev pub ReadOutOnce : Type 0
 ReadOutOnce =
     (s : State) (m t : List ℕ) → Typed s → sizes_fit m t ≡ true → in_range s ≡ true
-    → let r = read_out_call s m t in read_out_call r.state m t ≡ record { answer = NoneSent; state = r.state }
+    → let r = read_out_call s m t in read_out_call r.state m t ≡ record { answer = Ok None; state = r.state }
 
 -- ---- "gives them the same raises, ticks and typed characters and has sent ones read out at the same steps in the same
 -- ---- order (all this is the device input)"
@@ -367,12 +374,12 @@ pub record PartAt (l : List ℕ) (start n : ℕ) (v : List ℕ) : Type 0 where
 
 abbrev pub ViewIsPart : Type 0
 ViewIsPart =
-    (k : Target) (start n : ℕ) (m t : List ℕ) → view_answer k start n m t ≡ Done
+    (k : Target) (start n : ℕ) (m t : List ℕ) → view_answer k start n m t ≡ Ok tt
     → PartAt (target_of k m t) start n (viewed k start n m t)
 
 abbrev pub RefusedViewEmpty : Type 0
 RefusedViewEmpty =
-    (k : Target) (start n : ℕ) (m t : List ℕ) (x : Refusal) → view_answer k start n m t ≡ Refused x
+    (k : Target) (start n : ℕ) (m t : List ℕ) (x : Refusal) → view_answer k start n m t ≡ Err x
     → viewed k start n m t ≡ []
 
 -- ---- "Where the answer is an enum, there is a definition that gives this paper's number and values for each of its

@@ -1,9 +1,7 @@
 -- What a call on a lent record answers and leaves, as one call of the definitions.
 use Rattle.std.specs.Prelude.{ℕ, List}
-use Rattle.isa.specs.Answers.{StepCall, StateCall}
+use Rattle.isa.specs.Answers.{Answer, StepAnswer, StepCall, StateCall}
 use Rattle.isa.specs.declared.machine.State.{State}
-use Rattle.isa.specs.declared.answer.StepAnswer.{StepAnswer}
-use Rattle.isa.specs.declared.answer.Answer.{Answer}
 
 abbrev pub lent_step : StepAnswer → State → List ℕ → List ℕ → StepCall
 lent_step a s m t = record { answer = a; state = s; memory = m; tables = t }

@@ -1,13 +1,13 @@
 // A change of level.
-ghost use Rattle.isa.specs.Machine.{level_count, register_words};
-ghost use Rattle.std.specs.Prelude.{◌≡◌, List, ℕ, ◌<◌, length};
+ghost use Rattle.isa.specs.Machine.{level_count};
+ghost use Rattle.std.specs.Prelude.{◌≡◌, List, ℕ, ◌<◌};
 ghost use Rattle.isa.specs.Machine.{pack};
 ghost use Rattle.isa.specs.Step.{highest_level, level_changed, turn};
 ghost use Rattle.levels.specs.Changes.{due_at, advanced_turn};
 
 use crate::{opened, put_back};
 use arithmetic::bits;
-use isa::machine::{Control, Core};
+use isa::machine::{Control, Core, Pcrs, RegisterWords};
 
 // The running level, its words, the steps before the last, the references of all of them, and the interrupt that the
 // last gave, or 0.
@@ -32,29 +32,26 @@ fn highest_level(k: Control) -> u16
 pub fn change_due(level: u16, k: Control) -> bool
     ensures { result ≡ due_at level k }
 {
-    if k.interrupts == 1 {
-        return highest_level(k) != level;
-    }
-    false
+    k.interrupts == 1 && highest_level(k) != level
 }
 
 // PVL takes the old level, the new one runs: its words are taken out of the lent ones.
 #[tactic(auto, using(crate::proofs::Changes::changed_level))]
-pub fn changed(level: u16, c: Core, regs: &mut [u16], pcrs: &mut [u16]) -> Advanced
+pub fn changed(level: u16, c: Core, regs: &mut RegisterWords, pcrs: &mut Pcrs) -> Advanced
     requires level_lt_level_count { level < level_count }
-    requires regs_len { length regs.old ≡ register_words }
-    requires pcrs_len { length pcrs.old ≡ level_count }
     ensures level_after { (result.level < level_count) × (result.before ≡ 0) }
     ensures by_index { (m t : List ℕ) → advanced_turn result regs.new pcrs.new m t
         ≡ turn (level_changed (pack level c regs.old pcrs.old)) 0 m t }
 {
-    let mut k = c.control;
-    let to = highest_level(k);
     put_back(level, c, regs, pcrs);
-    k.pvl = level;
+    let to = highest_level(c.control);
+    let control = Control {
+        pvl: level,
+        ..c.control
+    };
     Advanced {
         level: to,
-        core: opened(to, k, regs, pcrs),
+        core: opened(to, control, regs, pcrs),
         before: 0,
         references: 0,
         gave: 0,

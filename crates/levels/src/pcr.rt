@@ -7,7 +7,7 @@ ghost use Rattle.isa.specs.Decode.{four_of};
 ghost use Rattle.levels.specs.Words.{own_a, with_a};
 
 use isa::constant::LEVELS;
-use isa::machine::{Core, Register};
+use isa::machine::{Core, Pcrs, Register};
 
 // A PCR's level is in A bits 6-3.
 fn pcr_place(a: u16) -> usize
@@ -18,34 +18,27 @@ fn pcr_place(a: u16) -> usize
 }
 
 // TRA PGC: the PCR of the level in A, to A.
-pub fn pcr_read(level: u16, c: Core, pcrs: &mut [u16]) -> Core
+pub fn pcr_read(level: u16, c: Core, pcrs: &mut Pcrs) -> Core
     requires level_lt_level_count { level < level_count }
-    requires pcrs_len { length pcrs.old ≡ level_count }
     ensures { (b : List ℕ) → length b ≡ register_words → pack level result b pcrs.new
         ≡ with_a (pack level c b pcrs.old)
         (get_or (set pcrs.old level c.pcr) (pcr_level (pack level c b pcrs.old)) 0) }
 {
-    let own = level as usize;
-    pcrs[own] = c.pcr;
-    let f = c.file;
-    let i = pcr_place(f.get(Register::A));
-    c.with_file(f.with(Register::A, pcrs[i]))
+    pcrs[level as usize] = c.pcr;
+    let i = pcr_place(c.file.get(Register::A));
+    c.with_file(c.file.with(Register::A, pcrs[i]))
 }
 
 // TRR PCR: A to the PCR of the level in A.
-pub fn pcr_written(level: u16, c: Core, pcrs: &mut [u16]) -> Core
+pub fn pcr_written(level: u16, c: Core, pcrs: &mut Pcrs) -> Core
     requires level_lt_level_count { level < level_count }
-    requires pcrs_len { length pcrs.old ≡ level_count }
     ensures { (b : List ℕ) → length b ≡ register_words → pack level result b pcrs.new
         ≡ with_pcrs (pack level c b pcrs.old)
         (set (set pcrs.old level c.pcr) (pcr_level (pack level c b pcrs.old))
         (pcr_mask (own_a (pack level c b pcrs.old)))) }
 {
-    let own = level as usize;
-    pcrs[own] = c.pcr;
-    let f = c.file;
-    let a = f.get(Register::A);
-    let i = pcr_place(a);
-    pcrs[i] = a / 128 % 16 * 128 + a % 4;
-    c.with_pcr(pcrs[own])
+    pcrs[level as usize] = c.pcr;
+    let a = c.file.get(Register::A);
+    pcrs[pcr_place(a)] = a / 128 % 16 * 128 + a % 4;
+    c.with_pcr(pcrs[level as usize])
 }

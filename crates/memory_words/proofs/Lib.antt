@@ -1,2 +1,2 @@
-pub mod OperandLaws
-pub mod BlockLaws
+pub mod TestLaws
+pub mod StoreLaws

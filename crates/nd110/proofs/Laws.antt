@@ -11,13 +11,12 @@ use lib.Seq.{paste, take_all, take_at, length-take-le, get_or-take, get_or-drop}
 use lib.Dec.{eqb}
 use borrow.Author.Tests.{eq-eqb}
 use Rattle.isa.specs.Machine.{register_words, control_count, state_words, control_of, state_with, state_in, state_ordered}
-use Rattle.isa.specs.Answers.{run_number, state_answer, StepCall, step_call_by, step_call, view_answer}
+use Rattle.isa.specs.Answers.{Answer, answer_number, state_answer, StepCall, step_call_by, step_call, view_answer}
 use Rattle.isa.specs.Answers.{viewed_by, viewed, target_of}
 use Rattle.isa.specs.declared.machine.Control.{Control}
 use Rattle.isa.specs.declared.machine.State.{State}
 use Rattle.isa.specs.declared.answer.Target.{Target}
-use Rattle.isa.specs.declared.answer.Answer.{Answer}
-use Rattle.isa.specs.declared.answer.Answer.TheVariants.{Done, Refused}
+use Rattle.std.specs.declared.result.Result.TheVariants.{Ok, Err}
 use Rattle.isa.specs.DeviceInput.{Given, InputRunCall, input_run_call_by, input_run_call}
 use Rattle.isa.proofs.Tests.{no_both}
 use Rattle.run.specs.Runs.{step_called}
@@ -58,8 +57,8 @@ unfolding viewed
 viewed_most k a n m t = go (view_answer k a n m t)
   where
     go : (x : Answer) → length (viewed_by x (target_of k m t) a n) ≤ n
-    go Done = rw (length-take n (drop a (target_of k m t))) (omega arith)
-    go (Refused r) = omega arith
+    go (Ok _) = rw (length-take n (drop a (target_of k m t))) (omega arith)
+    go (Err r) = omega arith
 
 -- ---- what a call leaves
 
@@ -86,7 +85,7 @@ called_well call end w m t y s r l h given gave left =
 
 -- what it leaves, by the number n: the words told begin with those of the inputs handed in, h of them; a refused run
 -- has none
-pub input_ended : (r : InputRunCall) (w told told' y v z : List ℕ) (n h : ℕ) → n ≡ run_number r.answer
+pub input_ended : (r : InputRunCall) (w told told' y v z : List ℕ) (n h : ℕ) → n ≡ answer_number r.answer
     → v ≡ cond (eqb n 0) (state_ordered r.state) w
     → z ≡ cond (eqb n 0) (h ∷ ran_values r.answer) y
     → told' ≡ onto r.told told → length r.told ≡ h → (eqb n 0 ≡ false → r.told ≡ [])
@@ -109,13 +108,13 @@ input_ended r w told told' y v z n h e hv hz ht hl none =
         ap (λ (l : List ℕ). l ++ y) (ht ∙ ap (λ (l : List ℕ). onto l told) (none q))
 
 pub refused_tells_none : (n : ℕ) (gs : List Given) (s : State) (m t : List ℕ) (r : InputRunCall)
-    → r ≡ input_run_call n gs s m t → eqb (run_number r.answer) 0 ≡ false → r.told ≡ []
+    → r ≡ input_run_call n gs s m t → eqb (answer_number r.answer) 0 ≡ false → r.told ≡ []
 unfolding input_run_call
 refused_tells_none n gs s m t r e = go (state_answer s m t) e
   where
-    go : (x : Answer) → r ≡ input_run_call_by x n gs s m t → eqb (run_number r.answer) 0 ≡ false → r.told ≡ []
-    go Done q h = absurd (no_both (sym h ∙ ap (λ (c : InputRunCall). eqb (run_number c.answer) 0) q))
-    go (Refused x) q h = ap (λ (c : InputRunCall). c.told) q
+    go : (x : Answer) → r ≡ input_run_call_by x n gs s m t → eqb (answer_number r.answer) 0 ≡ false → r.told ≡ []
+    go (Ok _) q h = absurd (no_both (sym h ∙ ap (λ (c : InputRunCall). eqb (answer_number c.answer) 0) q))
+    go (Err x) q h = ap (λ (c : InputRunCall). c.told) q
 
 -- ---- a step of the words themselves: the registers b that it left stand in front of the other words
 
@@ -128,9 +127,9 @@ step_ends s w m t y e = go (state_answer s m t)
   where
     go : (x : Answer) → step_end ((step_call_by x s m t).state.regs ++ drop register_words w) y (step_call_by x s m t)
         ≡ step_end w y (step_call_by x s m t)
-    go Done = refl
-    go (Refused r) =
-        ap (λ (v : List ℕ). step_end v y (step_call_by (Refused r) s m t))
+    go (Ok _) = refl
+    go (Err r) =
+        ap (λ (v : List ℕ). step_end v y (step_call_by (Err r) s m t))
         (ap (λ (v : List ℕ). v ++ drop register_words w) e ∙ take-append-drop register_words w)
 
 pub step_on_words : (w m t y : List ℕ) (k : Control) (p : List ℕ) (r : StepEnd) (b q m' t' : List ℕ) (l : Left)

@@ -2,8 +2,8 @@
 -- a record; and the conversions of document 02 over words.
 use Rattle.std.specs.Prelude.{ℕ, Bool, cond, ◌&&◌, ◌||◌, List, [], ◌∷◌, ◌++◌, length, leb, eqb}
 use Rattle.isa.specs.Machine.{state_words, state_in, state_ordered}
-use Rattle.isa.specs.Answers.{StepCall, RunCall, StateCall, ReadOutCall, LoadCall, answer_number, step_number}
-use Rattle.isa.specs.Answers.{interrupt_given, run_number, sent_number, character_sent_of, steps_taken, reason_number}
+use Rattle.isa.specs.Answers.{Answer, RunAnswer, StepCall, RunCall, StateCall, ReadOutCall, LoadCall, answer_number}
+use Rattle.isa.specs.Answers.{interrupt_given, character_sent_of, steps_taken, reason_number}
 use Rattle.isa.specs.Answers.{references_made}
 use Rattle.isa.specs.Answers.{step_call, run_call, raise_call, tick_call, type_call, read_out_call, load_call}
 use Rattle.isa.specs.Answers.{write_answer, written_output, view_answer, viewed, Told}
@@ -11,11 +11,9 @@ use Rattle.isa.specs.DeviceInput.{InputRunCall, input_run_call, given_of}
 use Rattle.run_input.specs.Inputs.{onto}
 use Rattle.floating.specs.Conversions.{to_long, to_short, long_numbers, short_numbers}
 use Rattle.isa.specs.declared.machine.State.{State}
-use Rattle.isa.specs.declared.answer.Answer.{Answer}
 use Rattle.isa.specs.declared.answer.Target.{Target}
 use Rattle.isa.specs.declared.answer.Target.TheVariants.{Memory, Tables}
-use Rattle.isa.specs.declared.answer.RunAnswer.{RunAnswer}
-use Rattle.isa.specs.declared.answer.RunAnswer.TheVariants.{Ran, Refused}
+use Rattle.std.specs.declared.result.Result.TheVariants.{Ok, Err}
 
 -- the number of a call that is no operation: a state of other than 168 words, a view of an unknown kind or into too few
 -- words, a conversion into other than the words of its form, device input in lists of other lengths; document 02 gives
@@ -25,8 +23,8 @@ bad_call = 255
 
 -- the reason's number of a run that was not refused
 abbrev pub reason_given : RunAnswer → ℕ
-reason_given (Ran k w g) = reason_number w
-reason_given (Refused r) = 0
+reason_given (Ok r) = reason_number r.reason
+reason_given (Err r) = 0
 
 -- what a run that was performed tells
 abbrev pub ran_values : RunAnswer → List ℕ
@@ -55,7 +53,7 @@ called w m t y l = cond (eqb (length w) state_words) l (left_of bad_call w m t y
 -- step tells the interrupt's number
 abbrev pub step_end : List ℕ → List ℕ → StepCall → Left
 step_end w y c =
-    call_end (step_number c.answer) c.state c.memory c.tables (interrupt_given c.answer ∷ []) w y
+    call_end (answer_number c.answer) c.state c.memory c.tables (interrupt_given c.answer ∷ []) w y
 
 abbrev pub host_step : List ℕ → List ℕ → List ℕ → List ℕ → Left
 host_step w m t y = called w m t y (step_end w y (step_call (state_in w) m t))
@@ -75,13 +73,13 @@ lent_left n s m t x = record { number = n; state = s; memory = m; tables = t; to
 -- tells the interrupt's number; a refused one leaves the word for it.
 abbrev pub lent_step_end : ℕ → StepCall → LentLeft
 lent_step_end y c =
-    lent_left (step_number c.answer) c.state c.memory c.tables
-    (cond (eqb (step_number c.answer) 0) (interrupt_given c.answer) y ∷ [])
+    lent_left (answer_number c.answer) c.state c.memory c.tables
+    (cond (eqb (answer_number c.answer) 0) (interrupt_given c.answer) y ∷ [])
 
 -- a run tells its steps, its reason's number and its references
 abbrev pub run_end : List ℕ → List ℕ → RunCall → Left
 run_end w y c =
-    call_end (run_number c.answer) c.state c.memory c.tables (ran_values c.answer) w y
+    call_end (answer_number c.answer) c.state c.memory c.tables (ran_values c.answer) w y
 
 abbrev pub host_run : Bool → ℕ → List ℕ → List ℕ → List ℕ → List ℕ → Left
 host_run first n w m t y = called w m t y (run_end w y (run_call first n (state_in w) m t))
@@ -109,7 +107,7 @@ host_type x w m t = called w m t [] (raise_end w m t (type_call (state_in w) x m
 -- a read out tells the character, or 256 for none
 abbrev pub read_out_end : List ℕ → List ℕ → List ℕ → List ℕ → ReadOutCall → Left
 read_out_end w y m t c =
-    call_end (sent_number c.answer) c.state m t (character_sent_of c.answer ∷ []) w y
+    call_end (answer_number c.answer) c.state m t (character_sent_of c.answer ∷ []) w y
 
 abbrev pub host_read_out : List ℕ → List ℕ → List ℕ → List ℕ → Left
 host_read_out w m t y = called w m t y (read_out_end w y m t (read_out_call (state_in w) m t))
@@ -119,7 +117,7 @@ host_read_out w m t y = called w m t y (read_out_end w y m t (read_out_call (sta
 -- no device input.
 abbrev pub input_run_end : List ℕ → List ℕ → List ℕ → InputRunCall → Left
 input_run_end w told y c =
-    call_end (run_number c.answer) c.state c.memory c.tables
+    call_end (answer_number c.answer) c.state c.memory c.tables
     (onto c.told told ++ (length c.told ∷ ran_values c.answer)) w (told ++ y)
 
 abbrev pub host_input_run : ℕ → List ℕ → List ℕ → List ℕ → List ℕ → List ℕ → List ℕ → List ℕ → Left

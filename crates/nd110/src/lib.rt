@@ -10,28 +10,24 @@ ghost use Rattle.nd110.specs.Calls.{host_tick, host_type, read_out_end, host_rea
 ghost use Rattle.nd110.specs.Calls.{target_named, host_view_answer, host_view, host_viewed};
 ghost use Rattle.nd110.specs.Calls.{lent_left, lent_step_end, lent_raise_end, output_left, host_to_long, host_to_short};
 ghost use Rattle.isa.specs.Machine.{level_count, register_words, state_words, state_ordered};
-ghost use Rattle.isa.specs.Answers.{step_number, interrupt_given, run_number, step_call, raise_call, run_call};
+ghost use Rattle.isa.specs.Answers.{answer_number, interrupt_given, step_call, raise_call, read_out_call, run_call};
 ghost use Rattle.run.specs.Runs.{step_called};
-ghost use Rattle.operations.specs.Calls.{run_of, read_out_of};
+ghost use Rattle.image_load.specs.Loading.{call_of};
 
-use floating::form::{Long, LongAnswer, Short, ShortAnswer};
+use floating::form::{Long, Short};
 use floating::{long_to_short, short_to_long};
 use image_load::bodies::{control_of, pcrs_of, state_in};
 use image_write::{put_control, put_devices};
-use isa::answer::{Answer, RunAnswer, StepAnswer, Target};
+use isa::answer::{Answered, Ran, Refusal, Target};
 use isa::constant::{FIRST_DEVICE, KIND_MEMORY, KIND_TABLES, REGISTER_WORDS, STATE_WORDS};
 use isa::machine::State;
-use isa::number::{
-    answer_number, character_sent_of, interrupt_given, reason_number, references_made,
-    refusal_number, run_number, sent_number, step_number, steps_taken,
-};
+use isa::number::{answer_number, character_sent_of, references_made, steps_taken};
 use lent::{raise_lent, step_lent};
-use operations::device::{ReadOutResult, read_out, tick, type_character};
+use operations::device::{read_out, tick, type_character};
 use operations::input::{InputRunResult, run_with_input};
 use operations::raise::raise;
-use operations::runs::{RunResult, through, to_interrupt};
+use operations::runs::run_by;
 use run::step::{StepEnd, step};
-use words::copy;
 
 // The number of a call that is no operation.
 const BAD_CALL: u16 = 255;
@@ -41,25 +37,23 @@ fn put_state(s: State, words: &mut [u16])
     requires { length words.old ≡ state_words }
     ensures { words.new ≡ state_ordered s }
 {
-    let d = s.devices;
     image_write::put_state(s, words, 0);
-    put_devices(d, words, FIRST_DEVICE);
+    put_devices(s.devices, words, FIRST_DEVICE);
 }
 
 // A step's number; its interrupt's to `interrupt`, unless it was refused.
-fn tell_interrupt(a: StepAnswer, interrupt: &mut u16) -> u16
-    ensures value { result ≡ step_number a }
-    ensures interrupt_after { interrupt.new ≡ cond (eqb (step_number a) 0) (interrupt_given a) interrupt.old }
+fn tell_interrupt(a: Result<u16, Refusal>, interrupt: &mut u16) -> u16
+    ensures value { result ≡ answer_number a }
+    ensures interrupt_after { interrupt.new ≡ cond (eqb (answer_number a) 0) (interrupt_given a) interrupt.old }
 {
-    let n = step_number(a);
-    if n != 0 {
-        return n;
+    if let Ok(n) = a {
+        *interrupt = n;
     }
-    *interrupt = interrupt_given(a);
-    0
+    answer_number(a)
 }
 
 // What a step of the lent words left beside their registers, to those words.
+// By the number that C gets, as the definitions decide it; so in tell, tell_answer, tell_character and tell_input.
 #[tactic(auto, unfolding(crate::specs::Calls::call_end))]
 fn tell_step(r: StepEnd, pcrs: &[u16], state: &mut [u16], interrupt: &mut u16) -> u16
     requires pcrs_len { length pcrs.now ≡ level_count }
@@ -69,15 +63,12 @@ fn tell_step(r: StepEnd, pcrs: &[u16], state: &mut [u16], interrupt: &mut u16) -
         ≡ step_end state.old (interrupt.old ∷ [])
         (step_called r (take register_words state.old) pcrs.now m t) }
 {
-    let a = r.answer;
-    let n = tell_interrupt(a, interrupt);
+    let n = tell_interrupt(r.answer, interrupt);
     if n != 0 {
         return n;
     }
-    let k = r.control;
-    let d = k.devices;
-    put_control(r.level, k, pcrs, state, REGISTER_WORDS);
-    put_devices(d, state, FIRST_DEVICE);
+    put_control(r.level, r.control, pcrs, state, REGISTER_WORDS);
+    put_devices(r.control.devices, state, FIRST_DEVICE);
     0
 }
 
@@ -99,14 +90,10 @@ pub extern "C" fn nd110_step(
     let level = state[REGISTER_WORDS];
     let k = control_of(&state[REGISTER_WORDS..FIRST_DEVICE], &state[FIRST_DEVICE..]);
     let mut pcrs = pcrs_of(&state[REGISTER_WORDS..FIRST_DEVICE]);
-    let r = step(
-        level,
-        k,
-        &mut state[..REGISTER_WORDS],
-        &mut pcrs,
-        mem,
-        tables,
-    );
+    let Some(regs) = state.first_chunk_mut() else {
+        return BAD_CALL;
+    };
+    let r = step(level, k, regs, &mut pcrs, mem, tables);
     tell_step(r, &pcrs, state, interrupt)
 }
 
@@ -122,24 +109,20 @@ pub extern "C" fn nd110_step_lent(
         ≡ lent_step_end interrupt.old
         (step_call m.old mem.old tables.old) }
 {
-    let a = step_lent(m, mem, tables);
-    tell_interrupt(a, interrupt)
+    tell_interrupt(step_lent(m, mem, tables), interrupt)
 }
 
 // A run's reason, 0 for one that was refused.
-fn reason_given(a: RunAnswer) -> u16
+fn reason_given(a: Result<Ran, Refusal>) -> u16
     ensures { result ≡ reason_given a }
 {
-    match a {
-        RunAnswer::Ran(_, w, _) => reason_number(w),
-        RunAnswer::Refused(_) => 0,
-    }
+    a.map_or(0, |r| r.reason.into())
 }
 
 // What a run answered, to the lent words.
 #[tactic(auto, unfolding(crate::specs::Calls::call_end))]
 fn tell(
-    r: RunResult,
+    r: Answered<Ran>,
     state: &mut [u16],
     steps: &mut u64,
     reason: &mut u16,
@@ -149,30 +132,18 @@ fn tell(
     ensures { (m t : List ℕ)
         → left_of result state.new m t (steps.new ∷ reason.new ∷ references.new ∷ [])
         ≡ run_end state.old (steps.old ∷ reason.old ∷ references.old ∷ [])
-        (run_of r m t) }
+        (call_of r m t) }
 {
     let a = r.answer;
-    let n = run_number(a);
+    let n = answer_number(a);
     if n != 0 {
         return n;
     }
-    let after = r.state;
-    put_state(after, state);
+    put_state(r.state, state);
     *steps = steps_taken(a);
     *reason = reason_given(a);
     *references = references_made(a);
     0
-}
-
-// Either run.
-fn run_by(s: State, mem: &mut [u16], tables: &mut [u16], n: u64, first: bool) -> RunResult
-    ensures { run_of result mem.new tables.new
-        ≡ run_call first n s mem.old tables.old }
-{
-    if first {
-        return to_interrupt(s, mem, tables, n);
-    }
-    through(s, mem, tables, n)
 }
 
 // Either run of the words' state.
@@ -199,6 +170,7 @@ fn run_words(
     tell(r, state, steps, reason, references)
 }
 
+// C calls the two runs by name; each is `run_words`.
 // At most n steps, interrupts and changes of level included. `steps` gets the steps taken, `reason` the reason's
 // number, `references` the memory references made.
 #[unsafe(no_mangle)]
@@ -240,7 +212,7 @@ pub extern "C" fn nd110_run_to_interrupt(
 
 // What an operation answered that tells no more, and the state that it left, to the lent words.
 #[tactic(auto, unfolding(crate::specs::Calls::call_end))]
-fn tell_answer(a: Answer, after: State, state: &mut [u16]) -> u16
+fn tell_answer(a: Result<(), Refusal>, after: State, state: &mut [u16]) -> u16
     requires { length state.old ≡ state_words }
     ensures { (m t : List ℕ)
         → left_of result state.new m t [] ≡ answer_end state.old a after m t }
@@ -264,9 +236,7 @@ pub extern "C" fn nd110_raise(state: &mut [u16], level: u16, mem: &[u16], tables
         return BAD_CALL;
     }
     let r = raise(state_in(state), level, mem, tables);
-    let a = r.answer;
-    let after = r.state;
-    tell_answer(a, after, state)
+    tell_answer(r.answer, r.state, state)
 }
 
 // A device's interrupt to a lent record.
@@ -276,8 +246,7 @@ pub extern "C" fn nd110_raise_lent(m: &mut State, level: u16, mem: &[u16], table
         ≡ lent_raise_end mem.now tables.now
         (raise_call m.old level mem.now tables.now) }
 {
-    let a = raise_lent(m, level, mem, tables);
-    answer_number(a)
+    answer_number(raise_lent(m, level, mem, tables))
 }
 
 // The real-time clock's pulse.
@@ -291,9 +260,7 @@ pub extern "C" fn nd110_tick(state: &mut [u16], mem: &[u16], tables: &[u16]) -> 
         return BAD_CALL;
     }
     let r = tick(state_in(state), mem, tables);
-    let a = r.answer;
-    let after = r.state;
-    tell_answer(a, after, state)
+    tell_answer(r.answer, r.state, state)
 }
 
 // A character typed at the terminal.
@@ -307,26 +274,23 @@ pub extern "C" fn nd110_type(state: &mut [u16], character: u8, mem: &[u16], tabl
         return BAD_CALL;
     }
     let r = type_character(state_in(state), character, mem, tables);
-    let a = r.answer;
-    let after = r.state;
-    tell_answer(a, after, state)
+    tell_answer(r.answer, r.state, state)
 }
 
 // What a read out answered, and the state that it left, to the lent words.
 #[tactic(auto, unfolding(crate::specs::Calls::call_end))]
-fn tell_character(r: ReadOutResult, state: &mut [u16], character: &mut u16) -> u16
+fn tell_character(r: Answered<Option<u16>>, state: &mut [u16], character: &mut u16) -> u16
     requires { length state.old ≡ state_words }
     ensures { (m t : List ℕ)
         → left_of result state.new m t (character.new ∷ [])
-        ≡ read_out_end state.old (character.old ∷ []) m t (read_out_of r) }
+        ≡ read_out_end state.old (character.old ∷ []) m t r }
 {
     let a = r.answer;
-    let n = sent_number(a);
+    let n = answer_number(a);
     if n != 0 {
         return n;
     }
-    let after = r.state;
-    put_state(after, state);
+    put_state(r.state, state);
     *character = character_sent_of(a);
     0
 }
@@ -346,8 +310,7 @@ pub extern "C" fn nd110_read_out(
     if state.len() != STATE_WORDS {
         return BAD_CALL;
     }
-    let r = read_out(state_in(state), mem, tables);
-    tell_character(r, state, character)
+    tell_character(read_out(state_in(state), mem, tables), state, character)
 }
 
 // What a run with device input answered, to the lent words.
@@ -360,19 +323,18 @@ fn tell_input(
     references: &mut u64,
 ) -> u16
     requires { length state.old ≡ state_words }
-    ensures value { result ≡ run_number r.answer }
+    ensures value { result ≡ answer_number r.answer }
     ensures state_after { state.new ≡ cond (eqb result 0) (state_ordered r.state) state.old }
     ensures references_after { (handed.new ∷ steps.new ∷ reason.new ∷ references.new ∷ [])
         ≡ cond (eqb result 0) (r.handed ∷ ran_values r.answer)
         (handed.old ∷ steps.old ∷ reason.old ∷ references.old ∷ []) }
 {
     let a = r.answer;
-    let n = run_number(a);
+    let n = answer_number(a);
     if n != 0 {
         return n;
     }
-    let after = r.state;
-    put_state(after, state);
+    put_state(r.state, state);
     *handed = r.handed as u64;
     *steps = steps_taken(a);
     *reason = reason_given(a);
@@ -434,9 +396,7 @@ pub extern "C" fn nd110_load(
         return BAD_CALL;
     }
     let r = operations::load(state_in(state), image, mem, tables);
-    let a = r.answer;
-    let after = r.state;
-    tell_answer(a, after, state)
+    tell_answer(r.answer, r.state, state)
 }
 
 // The machine as an image; words of the output past it stay.
@@ -454,13 +414,11 @@ pub extern "C" fn nd110_write(state: &[u16], mem: &[u16], tables: &[u16], out: &
 }
 
 // The kinds of image entries that can be viewed: 1 memory, 4 page tables.
+// Numbers, since C hands them in.
 fn known_target(kind: u16) -> bool
     ensures { result ≡ known_target kind }
 {
-    if kind == KIND_MEMORY {
-        return true;
-    }
-    kind == KIND_TABLES
+    kind == KIND_MEMORY || kind == KIND_TABLES
 }
 
 #[tactic(auto, unfolding(crate::specs::Calls::target_named))]
@@ -468,9 +426,10 @@ fn target_named(kind: u16) -> Target
     ensures { result ≡ target_named kind }
 {
     if kind == KIND_MEMORY {
-        return Target::Memory;
+        Target::Memory
+    } else {
+        Target::Tables
     }
-    Target::Tables
 }
 
 // The call beside view, which tells its number.
@@ -513,7 +472,7 @@ pub extern "C" fn nd110_view<'a>(
     let n = nd110_view_answer(kind, start, len, mem, tables);
     if known_target(kind) {
         let part = operations::view(target_named(kind), start, len, mem, tables);
-        copy(out, 0, part, 0, part.len());
+        out[..part.len()].copy_from_slice(part);
     }
     n
 }
@@ -533,13 +492,13 @@ pub extern "C" fn nd110_short_to_long(a: u16, d: u16, out: &mut [u16]) -> u16
         return BAD_CALL;
     }
     match short_to_long(Short { a: a, d: d }) {
-        LongAnswer::Converted(l) => {
+        Ok(l) => {
             out[0] = l.t;
             out[1] = l.a;
             out[2] = l.d;
             0
         }
-        LongAnswer::Refused(x) => refusal_number(x),
+        Err(x) => x.into(),
     }
 }
 
@@ -553,11 +512,11 @@ pub extern "C" fn nd110_long_to_short(t: u16, a: u16, d: u16, out: &mut [u16]) -
         return BAD_CALL;
     }
     match long_to_short(Long { t: t, a: a, d: d }) {
-        ShortAnswer::Converted(s) => {
+        Ok(s) => {
             out[0] = s.a;
             out[1] = s.d;
             0
         }
-        ShortAnswer::Refused(x) => refusal_number(x),
+        Err(x) => x.into(),
     }
 }

@@ -5,8 +5,8 @@ use Rattle.isa.specs.Answers.{state_answer}
 use Rattle.isa.specs.DeviceInput.{Given, InputRunCall, input_run_call}
 use Rattle.isa.specs.declared.machine.State.{State}
 use Rattle.isa.specs.declared.answer.Refusal.{Refusal}
-use Rattle.isa.specs.declared.answer.Answer.TheVariants.{Refused}
 use Rattle.isolation.specs.Statement.{Starts, Isolated, RefusedAlike}
+use Rattle.std.specs.declared.result.Result.TheVariants.{Err}
 
 -- From the state s: the call r with the device input gs, the memory m and the page tables t, the call q with hs, n and
 -- u, k steps asked of both. Both inputs are of one list, as far as each side has words for what they are told.
@@ -19,5 +19,5 @@ pub record SideBySide (s : State) (k : ℕ) (gs hs : List Given) (m t n u : List
   pub isolated : u ≡ t → hs ≡ gs → Starts s t m n → Isolated s t m n r q
   -- "Two starts that are refused, with equally much memory and equal in all but memory's words, get the same refusal,
   -- and each stays as it came."
-  pub refused : u ≡ t → length m ≡ length n → (x : Refusal) → state_answer s m t ≡ Refused x
+  pub refused : u ≡ t → length m ≡ length n → (x : Refusal) → state_answer s m t ≡ Err x
       → RefusedAlike s t m n x r q

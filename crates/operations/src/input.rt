@@ -6,22 +6,38 @@ ghost use Rattle.run_input.specs.Inputs.{onto};
 ghost use Rattle.operations.specs.Calls.{input_run_of};
 
 use checks::parts_answer;
-use isa::answer::{Answer, RunAnswer};
+use isa::answer::{Ran, Refusal};
 use isa::machine::State;
 use run_input::run_with_input as run_parts;
 
 // What a run with device input answers, how many inputs were handed in, and the state that it leaves.
 #[derive(Clone, Copy)]
 pub struct InputRunResult {
-    pub answer: RunAnswer,
+    pub answer: Result<Ran, Refusal>,
     pub handed: usize,
     pub state: State,
+}
+
+// A refused run is handed nothing and leaves the state as it came.
+fn refused(s: State, x: Refusal) -> InputRunResult
+    ensures { result ≡ record {
+      answer = Err x;
+      handed = 0;
+      state = s;
+    } }
+{
+    InputRunResult {
+        answer: Err(x),
+        handed: 0,
+        state: s,
+    }
 }
 
 // At most n steps, up to the first that gives an interrupt, or before a change of level. The input what[i] is handed in
 // after at[i] steps, and what it was told is put to told[i]; the shortest of the three lists counts. An input is a
 // word: below 256 the level to raise, 256 a tick, 257 a read out, 512 + c the character c. It is told 0 or its refusal;
-// a read out the character, or 256 for none. Words of inputs not handed in stay. Refusals 1 and 2.
+// a read out the character, or 256 for none. Words of inputs not handed in stay. Refusals 1 and 2. Words that
+// pass the first have page tables of 512.
 #[tactic(auto, using(checks::proofs::Passed::run_needs))]
 pub fn run_with_input(
     s: State,
@@ -44,25 +60,24 @@ pub fn run_with_input(
     let mut regs = s.regs;
     let mut pcrs = s.pcr;
     let k = s.control_words();
-    let a = parts_answer(s.level, k, &regs, &pcrs, mem, tables);
-    match a {
-        Answer::Done => {
-            let classes = word_class::table::table();
-            let r = run_parts(
-                &classes, s.level, k, &mut regs, &mut pcrs, mem, tables, n, at, what, told,
-            );
-            let control = r.control;
-            let reason = r.reason;
-            InputRunResult {
-                answer: RunAnswer::Ran(r.steps, reason, r.references),
-                handed: r.handed,
-                state: State::with(r.level, control, regs, pcrs),
+    match parts_answer(s.level, k, &regs, &pcrs, mem, tables) {
+        Ok(()) => match tables.as_mut_array() {
+            Some(tables) => {
+                let r = run_parts(
+                    s.level, k, &mut regs, &mut pcrs, mem, tables, n, at, what, told,
+                );
+                InputRunResult {
+                    answer: Ok(Ran {
+                        steps: r.steps,
+                        reason: r.reason,
+                        references: r.references,
+                    }),
+                    handed: r.handed,
+                    state: State::with(r.level, r.control, regs, pcrs),
+                }
             }
-        }
-        Answer::Refused(x) => InputRunResult {
-            answer: RunAnswer::Refused(x),
-            handed: 0,
-            state: s,
+            None => refused(s, Refusal::Sizes),
         },
+        Err(x) => refused(s, x),
     }
 }

@@ -8,8 +8,7 @@ ghost use Rattle.isa.specs.Answers.{view_answer, viewed, write_answer, written_o
 ghost use Rattle.isa.specs.Answers.{answer_numbers, load_told, write_told, view_told};
 ghost use Rattle.image_load.specs.Loading.{call_of};
 
-use image_load::LoadResult;
-use isa::answer::{Answer, Target};
+use isa::answer::{Answered, Refusal, Target};
 use isa::machine::State;
 
 pub mod device;
@@ -22,7 +21,7 @@ pub mod step;
 
 // The machine of an image. Refusals 1, 4 to 8 and 2.
 #[tactic(auto, using(crate::proofs::Laws::load_told_law))]
-pub fn load(s: State, image: &[u16], mem: &mut [u16], tables: &mut [u16]) -> LoadResult
+pub fn load(s: State, image: &[u16], mem: &mut [u16], tables: &mut [u16]) -> Answered<()>
     ensures tables_after { call_of result mem.new tables.new
         ≡ load_call s image.now mem.old tables.old }
     ensures answer_value { answer_numbers result.answer
@@ -33,7 +32,7 @@ pub fn load(s: State, image: &[u16], mem: &mut [u16], tables: &mut [u16]) -> Loa
 
 // The machine as an image. Refusals 1, 2 and 10; words past the image stay.
 #[tactic(auto, using(laws::proofs::Numbers::calls_tell))]
-pub fn write(s: State, mem: &[u16], tables: &[u16], out: &mut [u16]) -> Answer
+pub fn write(s: State, mem: &[u16], tables: &[u16], out: &mut [u16]) -> Result<(), Refusal>
     ensures value { result ≡ write_answer s mem.now tables.now out.old }
     ensures out_after { out.new ≡ written_output s mem.now tables.now out.old }
     ensures result_value { answer_numbers result ≡ write_told s mem.now tables.now out.old }
@@ -56,7 +55,13 @@ pub fn view<'a>(
 
 // The call beside it, which tells the view's number. Refusals 1 and 9.
 #[tactic(auto, using(laws::proofs::Numbers::calls_tell))]
-pub fn view_answer(kind: Target, start: usize, len: usize, mem: &[u16], tables: &[u16]) -> Answer
+pub fn view_answer(
+    kind: Target,
+    start: usize,
+    len: usize,
+    mem: &[u16],
+    tables: &[u16],
+) -> Result<(), Refusal>
     ensures value { result ≡ view_answer kind start len mem.now tables.now }
     ensures result_value { answer_numbers result ≡ view_told kind start len mem.now tables.now }
 {

@@ -3,15 +3,15 @@ ghost use Rattle.operations.specs.Calls.{reload_of};
 ghost use Rattle.operations.specs.Reload.{WrittenAndLoaded};
 
 use crate::{load, write};
-use isa::answer::Answer;
+use isa::answer::Refusal;
 use isa::constant::BESIDE_MEMORY;
 use isa::machine::State;
 
 // What write and load answer, and the state of the machine loaded into. A refused write's refusal stands for load's.
 #[derive(Clone, Copy)]
 pub struct ReloadResult {
-    pub written: Answer,
-    pub loaded: Answer,
+    pub written: Result<(), Refusal>,
+    pub loaded: Result<(), Refusal>,
     pub state: State,
 }
 
@@ -30,22 +30,18 @@ pub fn write_and_load(
         old to.old copies.old
         result.written out.new (reload_of result to.new copies.new) }
 {
-    let a = write(s, mem, tables, out);
-    match a {
-        Answer::Done => {
-            let n = mem.len() + BESIDE_MEMORY;
-            let r = load(old, &out[0..n], to, copies);
-            let b = r.answer;
-            let after = r.state;
+    match write(s, mem, tables, out) {
+        Ok(()) => {
+            let r = load(old, &out[..mem.len() + BESIDE_MEMORY], to, copies);
             ReloadResult {
-                written: Answer::Done,
-                loaded: b,
-                state: after,
+                written: Ok(()),
+                loaded: r.answer,
+                state: r.state,
             }
         }
-        Answer::Refused(x) => ReloadResult {
-            written: Answer::Refused(x),
-            loaded: Answer::Refused(x),
+        Err(x) => ReloadResult {
+            written: Err(x),
+            loaded: Err(x),
             state: old,
         },
     }

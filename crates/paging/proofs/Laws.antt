@@ -9,6 +9,9 @@ use mathlib.Core.List.{List}
 use lib.ListN.{get_or}
 use lib.Dec.{ltb, eqb}
 use borrow.Author.Tests.{ltb-true, eq-eqb, ne_eqb}
+use Rattle.std.specs.Prelude.{IfOk}
+use Rattle.std.specs.declared.result.Result.{Result}
+use Rattle.std.specs.declared.result.Result.TheVariants.{Ok, Err}
 use Rattle.isa.specs.Machine.{table_words}
 use Rattle.isa.specs.Pages.{Entry, entry_of, entry_at, first_word, slot_of, some_permit, needed, ring_allows, physical}
 use Rattle.isa.specs.Pages.{paging_status, in_memory, in_tables, within_memory, judged, table_of, window_words, in_window}
@@ -17,7 +20,9 @@ use Rattle.isa.specs.declared.access.Access.{Access}
 use Rattle.isa.specs.declared.access.AccessKind.{AccessKind}
 use Rattle.isa.specs.declared.access.AccessKind.TheVariants.{Fetch, Read, Write, Indirect}
 use Rattle.isa.specs.declared.access.Rights.{Rights}
-use Rattle.isa.specs.declared.access.Translation.TheVariants.{Protection, PageFault, OutOfRange}
+use Rattle.isa.specs.declared.access.Place.{Place}
+use Rattle.isa.specs.declared.access.Fault.{Fault}
+use Rattle.isa.specs.declared.access.Fault.TheVariants.{Protection, PageFault, OutOfRange}
 use Rattle.isa.proofs.Tests.{either, decided}
 use Rattle.paging.specs.Within.{Within}
 
@@ -76,24 +81,41 @@ entry_by form t slot at named = λ j. entry_of (get_or t (at j) 0) (named j)
 
 -- ---- the outcomes of the tests by an entry
 
+abbrev pub passed : Place → Result Place Fault
+passed p = Ok p
+
+abbrev pub refused : Fault → Result Place Fault
+refused f = Err f
+
 module _ (e : Entry) (slot words ring : ℕ) (k : AccessKind) (a : ℕ) where
   pub judged_refused : needed e k ≡ false
       → judged e slot words ring k a
-      ≡ cond (not (some_permit e)) (PageFault (paging_status k 16384 slot)) (Protection (paging_status k 16384 slot))
+      ≡ Err
+      (cond (not (some_permit e)) (PageFault (paging_status k 16384 slot)) (Protection (paging_status k 16384 slot)))
   unfolding judged
-  judged_refused n = simp n
+  judged_refused n = simp n (go (some_permit e))
+    where
+      g : ℕ
+      g = paging_status k 16384 slot
+
+      go : (b : Bool) → cond (not b) (refused (PageFault g)) (refused (Protection g))
+          ≡ refused (cond (not b) (PageFault g) (Protection g))
+      go true = refl
+      go false = refl
 
   module _ (n : needed e k ≡ true) where
-    pub judged_ring : ring_allows e ring ≡ false → judged e slot words ring k a ≡ Protection (paging_status k 0 slot)
+    pub judged_ring : ring_allows e ring ≡ false
+        → judged e slot words ring k a ≡ Err (Protection (paging_status k 0 slot))
     unfolding judged
     judged_ring r = simp (needed_some e k n, n, r)
 
     module _ (r : ring_allows e ring ≡ true) where
-      pub judged_within : ltb (physical e a) words ≡ true → judged e slot words ring k a ≡ in_memory k (physical e a)
+      pub judged_within : ltb (physical e a) words ≡ true
+          → judged e slot words ring k a ≡ Ok (in_memory k (physical e a))
       unfolding judged within_memory
       judged_within w = simp (needed_some e k n, n, r, w)
 
-      pub judged_beyond : ltb (physical e a) words ≡ false → judged e slot words ring k a ≡ OutOfRange
+      pub judged_beyond : ltb (physical e a) words ≡ false → judged e slot words ring k a ≡ Err OutOfRange
       unfolding judged within_memory
       judged_beyond w = simp (needed_some e k n, n, r, w)
 
@@ -101,7 +123,7 @@ module _ (e : Entry) (slot words ring : ℕ) (k : AccessKind) (a : ℕ) where
 
 module _ (t : List ℕ) (words : ℕ) (r : Rights) (x : Access) where
   pub window_translated : in_window r x.address ≡ true
-      → translate t words r x ≡ in_tables x.kind (x.address % window_words r.extended)
+      → translate t words r x ≡ Ok (in_tables x.kind (x.address % window_words r.extended))
   unfolding translate
   window_translated h = simp h
 
@@ -134,6 +156,10 @@ module _ (t : List ℕ) (words : ℕ) (r : Rights) (x : Access) where
 
 -- ---- a place lies within the memory, or the tables
 
+-- .. if the access passed
+abbrev Inside : ℕ → Result Place Fault → Type 0
+Inside words x = IfOk x (Within words)
+
 memory_within : (words : ℕ) (k : AccessKind) (p : ℕ) → p < words → Within words (in_memory k p)
 memory_within words Fetch p h = h
 memory_within words Read p h = h
@@ -146,29 +172,31 @@ tables_within words Read i h = h
 tables_within words Write i h = h
 tables_within words Indirect i h = h
 
-pub physical_within : (words : ℕ) (k : AccessKind) (p : ℕ) → Within words (within_memory words k p)
+pub physical_within : (words : ℕ) (k : AccessKind) (p : ℕ) → IfOk (within_memory words k p) (Within words)
 unfolding within_memory
 physical_within words k p =
-    decided (Within words) (ltb p words) (λ h. memory_within words k p (ltb-true p words h)) (λ h. tt)
+    decided (Inside words) (ltb p words) (λ h. memory_within words k p (ltb-true p words h)) (λ h. tt)
 
-judged_inside : (e : Entry) (slot words ring : ℕ) (k : AccessKind) (a : ℕ) → Within words (judged e slot words ring k a)
+pub judged_inside : (e : Entry) (slot words ring : ℕ) (k : AccessKind) (a : ℕ)
+    → IfOk (judged e slot words ring k a) (Within words)
 unfolding judged
 judged_inside e slot words ring k a =
-    either (Within words) (not (some_permit e)) tt
-    (either (Within words) (not (needed e k)) tt
-    (either (Within words) (not (ring_allows e ring)) tt (physical_within words k (physical e a))))
+    either (Inside words) (not (some_permit e)) tt
+    (either (Inside words) (not (needed e k)) tt
+    (either (Inside words) (not (ring_allows e ring)) tt (physical_within words k (physical e a))))
 
 -- a place of the window, in either mode
 pub window_inside : (form : Bool) (a : ℕ) → a % window_words form < table_words
 window_inside true a = omega arith
 window_inside false a = omega arith
 
-pub translate_within : (t : List ℕ) (words : ℕ) (r : Rights) (x : Access) → Within words (translate t words r x)
+pub translate_within : (t : List ℕ) (words : ℕ) (r : Rights) (x : Access)
+    → IfOk (translate t words r x) (Within words)
 unfolding translate
 translate_within t words r x =
-    either (Within words) (in_window r x.address)
+    either (Inside words) (in_window r x.address)
     (tables_within words x.kind (x.address % window_words r.extended) (window_inside r.extended x.address))
-    (either (Within words) r.paging
+    (either (Inside words) r.paging
     (judged_inside (entry_at r.extended t (slot_of (table_of r x.alternate) x.address))
     (slot_of (table_of r x.alternate) x.address) words r.ring x.kind x.address)
     (physical_within words x.kind x.address))

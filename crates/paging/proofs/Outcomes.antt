@@ -1,102 +1,50 @@
--- A test of accesses, one access further.
+-- What a test of accesses leaves, by what the code has of it.
 -- Assumes nothing.
-use Prim.Native.Nat.{ℕ, suc, ◌+◌}
-use native.Mathlib.Nat.{add-zero}
-use native.Mathlib.Omega.{arith}
-use mathlib.Core.Path.{◌≡◌, refl, sym, ap, ◌∙◌}
-use mathlib.Core.Bool.{true, false, and-false}
-use mathlib.Core.List.{List, [], ◌∷◌, ◌++◌, append-nil, append_assoc}
-use lib.ListN.{length, length-append}
-use borrow.Author.Tests.{eq-eqb, ne_eqb}
-use Rattle.isa.specs.Pages.{test_all, translate, marked, fault_of, passes}
+use Rattle.std.proofs.Common.{◌≡◌, ℕ, suc, List, [], ◌∷◌, length, refl, sym, ap}
+use Rattle.std.proofs.lemmas.Option.{none-some}
+use Rattle.std.specs.declared.option.Option.TheVariants.{None}
+use Rattle.std.specs.declared.result.Result.{Result}
+use Rattle.std.specs.declared.result.Result.TheVariants.{Ok, Err}
+use Rattle.std.specs.Result.{is_ok}
+use Rattle.isa.specs.Pages.{Tested, tested_first, test_all, translate, marked}
 use Rattle.isa.specs.declared.access.Access.{Access}
 use Rattle.isa.specs.declared.access.Rights.{Rights}
-use Rattle.isa.specs.declared.access.Translation.{Translation}
-use Rattle.isa.specs.declared.access.Translation.TheVariants.{NoAccess}
+use Rattle.isa.specs.declared.access.Place.{Place}
+use Rattle.isa.specs.declared.access.Fault.{Fault}
 use Rattle.isa.proofs.Tests.{no_both}
-use Rattle.paging.specs.Within.{Within, AllWithin}
-use Rattle.paging.specs.Outcome.{Outcome}
-use Rattle.paging.proofs.Laws.{translate_within}
+use Rattle.paging.specs.declared.failure.Failure.{Failure}
+use Rattle.paging.specs.Outcome.{nth}
+use Rattle.paging.proofs.Laws.{refused}
 
--- the code's test of an access by the number of its fault
-pub passes_zero : (x : Translation) {n : ℕ} → n ≡ fault_of x → n ≡ 0 → passes x ≡ true
-passes_zero x e z = eq-eqb (fault_of x) 0 (sym e ∙ z)
+-- as many accesses were made as there are, if all passed
+first_passed : (t : List ℕ) (y : Result Place Fault) (q : Tested) (n : ℕ) → (tested_first t y q).fault ≡ None
+    → (q.fault ≡ None → q.made ≡ n) → (tested_first t y q).made ≡ suc n
+first_passed t (Ok p) q n h k = ap suc (k h)
+first_passed t (Err f) q n h k = absurd (none-some f (sym h))
 
-pub fails_other : (x : Translation) {n : ℕ} → n ≡ fault_of x → (n ≡ 0 → ⊥) → passes x ≡ false
-fails_other x e z = ne_eqb (fault_of x) 0 (λ q. z (e ∙ q))
+pub made_all : (t : List ℕ) (words : ℕ) (r : Rights) (xs : List Access) → (test_all t words r xs).fault ≡ None
+    → (test_all t words r xs).made ≡ length xs
+made_all t words r [] h = refl
+made_all t words r (x ∷ xs) h =
+    first_passed t (translate t words r x) _ _ h (made_all (marked t words r x) words r xs)
 
--- a failed access marks nothing
-unmarked : (t : List ℕ) (words : ℕ) (r : Rights) (x : Access) → passes (translate t words r x) ≡ false
-    → marked t words r x ≡ t
-unfolding marked
-unmarked t words r x h = simp (h, and-false)
+-- an access by its number: the place, or the fault
+place_or : Place → Result Place Failure → Place
+place_or d (Ok p) = p
+place_or d (Err e) = d
 
--- one place more, and as many after it
-one_more : (xs : List Translation) (y : Translation) (n : ℕ) → length (xs ++ y ∷ []) + n ≡ length xs + suc n
-one_more xs y n = let h = length-append xs (y ∷ []) in omega (arith, h)
+failure_or : Failure → Result Place Failure → Failure
+failure_or d (Ok p) = d
+failure_or d (Err e) = e
 
--- what the code found of an access x: its translation y, the number n of its fault, and the tables v that it left
-pub record Found (t : List ℕ) (words : ℕ) (r : Rights) (x : Access) (y : Translation) (n : ℕ)
-    (v : List ℕ) : Type 0 where
-  pub place : y ≡ translate t words r x
-  pub marks : v ≡ marked t words r x
-  pub fault : n ≡ fault_of y
+pub nth_passed : (x : Result Place Fault) (n : ℕ) (p : Place) → Ok p ≡ nth x n → Ok p ≡ x
+unfolding place_or
+nth_passed (Ok q) n p h = ap Ok (ap (place_or p) h)
+nth_passed (Err f) n p h = absurd (no_both (sym (ap is_ok h)))
 
--- .. by the contracts of the translation and of its fault's number
-pub found_by : {t : List ℕ} {words : ℕ} {r : Rights} {x : Access} {y : Translation} {n : ℕ} {v : List ℕ}
-    → (y ≡ translate t words r x) × (v ≡ marked t words r x) → n ≡ fault_of y → Found t words r x y n v
-found_by e h = record { place = e.0; marks = e.1; fault = h }
-
-module _ {t : List ℕ} {words : ℕ} {r : Rights} {x : Access} {y : Translation} {n : ℕ} {v : List ℕ}
-    (f : Found t words r x y n v) where
-  pub found_within : Within words y
-  found_within = rw f.place (translate_within t words r x)
-
-  -- it passed, and the accesses after it were tested
-  pub found_passed : {before : List Translation} {xs : List Access} {ps : List Translation} {z : Translation}
-      {made : ℕ} {u : List ℕ} → n ≡ 0
-      → Outcome v words r (before ++ y ∷ []) xs ps z made u
-      → Outcome t words r before (x ∷ xs) ps z made u
-  found_passed {before} {xs} {ps} {z} {made} {u} e o =
-      go (ap passes (sym f.place) ∙ passes_zero y f.fault e) (rw (← f.marks, ← f.place) o)
-    where
-      go : passes (translate t words r x) ≡ true
-          → Outcome (marked t words r x) words r (before ++ translate t words r x ∷ []) xs ps z made u
-          → Outcome t words r before (x ∷ xs) ps z made u
-      go h q =
-          let p = translate t words r x in
-          let rest = test_all (marked t words r x) words r xs in
-          record {
-            tables = simp h q.tables;
-            failed = simp h q.failed;
-            passed = λ k. simp h (q.passed k ∙ append_assoc before (p ∷ []) rest.places);
-            count = simp h (q.count ∙ one_more before p rest.made);
-            within = q.within;
-          }
-
-  -- it failed
-  pub found_failed : {before : List Translation} {xs : List Access} {ps : List Translation} → (n ≡ 0 → ⊥)
-      → AllWithin words ps → Outcome t words r before (x ∷ xs) ps y (length before + 1) v
-  found_failed {before} {xs} {ps} e w =
-      rw (f.place, f.marks) (go (ap passes (sym f.place) ∙ fails_other y f.fault e))
-    where
-      go : passes (translate t words r x) ≡ false
-          → Outcome t words r before (x ∷ xs) ps (translate t words r x) (length before + 1) (marked t words r x)
-      go h = record {
-        tables = simp h (unmarked t words r x h);
-        failed = simp h;
-        passed = λ k. absurd (no_both (sym h ∙ k));
-        count = simp h;
-        within = w;
-      }
-
--- no access is left
-pub done : {t : List ℕ} {words : ℕ} {r : Rights} {ps : List Translation} → AllWithin words ps
-    → Outcome t words r ps [] ps NoAccess (length ps) t
-done {ps = ps} w = record {
-  tables = refl;
-  failed = refl;
-  passed = λ h. sym (append-nil ps);
-  count = sym (add-zero (length ps));
-  within = w;
-}
+pub nth_failed : (x : Result Place Fault) (n : ℕ) (e : Failure) → Err e ≡ nth x n
+    → (Err e.fault ≡ x) × (e.made ≡ n)
+unfolding failure_or
+nth_failed (Ok q) n e h = absurd (no_both (ap is_ok h))
+nth_failed (Err f) n e h =
+    let k = ap (failure_or e) h in (ap (λ (y : Failure). refused y.fault) k, ap (λ (y : Failure). y.made) k)

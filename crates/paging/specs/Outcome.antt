@@ -1,17 +1,19 @@
--- What a test of accesses gives and leaves.
-use Rattle.std.specs.Prelude.{ℕ, ◌+◌, ◌≡◌, true, List, ◌++◌, length}
-use Rattle.isa.specs.Pages.{test_all, passes}
-use Rattle.isa.specs.declared.access.Access.{Access}
-use Rattle.isa.specs.declared.access.Rights.{Rights}
-use Rattle.isa.specs.declared.access.Translation.{Translation}
-use Rattle.paging.specs.Within.{AllWithin}
+-- What the code has of a test of accesses.
+use Rattle.std.specs.Prelude.{◌≡◌, ℕ, List}
+use Rattle.std.specs.declared.option.Option.TheVariants.{None, Some}
+use Rattle.std.specs.declared.result.Result.{Result}
+use Rattle.std.specs.declared.result.Result.TheVariants.{Ok, Err}
+use Rattle.isa.specs.Pages.{Tested}
+use Rattle.isa.specs.declared.access.Place.{Place}
+use Rattle.isa.specs.declared.access.Fault.{Fault}
+use Rattle.paging.specs.declared.failure.Failure.{Failure}
 
--- By the page tables t, after accesses that passed to the places before, the accesses xs gave the first fault and, if
--- all passed, the places, and left the tables u; made is how many were made, those before included.
-pub record Outcome (t : List ℕ) (words : ℕ) (r : Rights) (before : List Translation) (xs : List Access)
-    (places : List Translation) (fault : Translation) (made : ℕ) (u : List ℕ) : Type 0 where
-  pub tables : u ≡ (test_all t words r xs).tables
-  pub failed : fault ≡ (test_all t words r xs).fault
-  pub passed : passes fault ≡ true → places ≡ before ++ (test_all t words r xs).places
-  pub count : made ≡ length before + (test_all t words r xs).made
-  pub within : AllWithin words places
+-- of the test r: the places, if all passed; or the first fault, and how many accesses were made
+abbrev pub Outcome : Tested → Result (List Place) Failure → Type 0
+Outcome r (Ok ps) = (r.fault ≡ None) × (r.places ≡ ps)
+Outcome r (Err e) = (r.fault ≡ Some e.fault) × (r.made ≡ e.made)
+
+-- an access, of which so many are made
+abbrev pub nth : Result Place Fault → ℕ → Result Place Failure
+nth (Ok p) n = Ok p
+nth (Err f) n = Err (record { fault = f; made = n })

@@ -1,35 +1,38 @@
 // A page table's entry: where it stands, its permits, its marks, and the status that names it.
-ghost use Rattle.std.specs.Prelude.{◌≡◌, ℕ, ◌<◌, length, get_or};
+ghost use Rattle.std.specs.Prelude.{◌≡◌, ℕ, ◌<◌, get_or};
 ghost use Rattle.isa.specs.Machine.{table_words, slot_count};
 ghost use Rattle.isa.specs.Pages.{entry_of, entry_at, first_word, needed, some_permit, paging_status, mark_of, slot_of};
 ghost use Rattle.isa.specs.Pages.{table_of};
 
 use isa::access::{AccessKind, Rights};
+use isa::machine::PageTables;
 
 // Where the first word of the entry at a slot stands: permits, marks and ring.
+// The mode decides the form of an entry, here and in page_of: one condition each, as in the definitions.
 pub fn first_word(extended: bool, slot: u16) -> usize
     requires { slot < slot_count }
     ensures value { result ≡ first_word extended slot }
     ensures upper_bound { result < table_words }
 {
     if extended {
-        return slot as usize * 2;
+        slot as usize * 2
+    } else {
+        slot as usize
     }
-    slot as usize
 }
 
 // The page of the entry at a slot, whose first word is e.
-pub fn page_of(extended: bool, tables: &[u16], slot: u16, e: u16) -> usize
+pub fn page_of(extended: bool, tables: &PageTables, slot: u16, e: u16) -> usize
     requires slot_lt_slot_count { slot < slot_count }
-    requires tables_len { length tables.now ≡ table_words }
     requires e_value { e ≡ get_or tables.now (first_word extended slot) 0 }
     ensures value { result ≡ (entry_at extended tables.now slot).page }
     ensures upper_bound { result < 16384 }
 {
     if extended {
-        return (tables[slot as usize * 2 + 1] % 16384) as usize;
+        (tables[slot as usize * 2 + 1] % 16384) as usize
+    } else {
+        (e % 512) as usize
     }
-    (e % 512) as usize
 }
 
 // Whether the entry with the first word e has the permit that the kind needs, whatever its page.
@@ -60,9 +63,7 @@ pub fn status(k: AccessKind, missing: u16, slot: u16) -> u16
 {
     match k {
         AccessKind::Fetch => 32768 + missing + slot,
-        AccessKind::Read => missing + slot,
-        AccessKind::Write => missing + slot,
-        AccessKind::Indirect => missing + slot,
+        AccessKind::Read | AccessKind::Write | AccessKind::Indirect => missing + slot,
     }
 }
 
@@ -71,10 +72,10 @@ pub fn mark(k: AccessKind, e: u16) -> u16
     ensures { result ≡ mark_of k e }
 {
     match k {
-        AccessKind::Fetch => e / 4096 * 4096 + 2048 + e % 2048,
-        AccessKind::Read => e / 4096 * 4096 + 2048 + e % 2048,
         AccessKind::Write => e / 8192 * 8192 + 6144 + e % 2048,
-        AccessKind::Indirect => e / 4096 * 4096 + 2048 + e % 2048,
+        AccessKind::Fetch | AccessKind::Read | AccessKind::Indirect => {
+            e / 4096 * 4096 + 2048 + e % 2048
+        }
     }
 }
 
@@ -84,8 +85,6 @@ pub fn slot_of(r: Rights, alternate: bool, a: u16) -> u16
     ensures value { result ≡ slot_of (table_of r alternate) a }
     ensures upper_bound { result < slot_count }
 {
-    if alternate {
-        return r.alternate * 64 + a / 1024 % 64;
-    }
-    r.normal * 64 + a / 1024 % 64
+    let table = if alternate { r.alternate } else { r.normal };
+    table * 64 + a / 1024 % 64
 }

@@ -23,10 +23,7 @@ pub fn level_rights(p: u16, paging: u16, extended: u16) -> Rights
 fn alternate_of(r: Rights, sts: u16) -> u16
     ensures { result ≡ cond (eqb (bit flag_ptm sts) 1) r.alternate r.normal }
 {
-    if sts % 2 == 1 {
-        return r.alternate;
-    }
-    r.normal
+    if sts % 2 == 1 { r.alternate } else { r.normal }
 }
 
 // With PTM of STS.
@@ -34,11 +31,8 @@ pub fn by_flags(r: Rights, sts: u16) -> Rights
     ensures { result ≡ by_flags r sts }
 {
     Rights {
-        paging: r.paging,
-        extended: r.extended,
-        ring: r.ring,
-        normal: r.normal,
         alternate: alternate_of(r, sts),
+        ..r
     }
 }
 
@@ -46,13 +40,7 @@ pub fn by_flags(r: Rights, sts: u16) -> Rights
 pub fn on_ring(r: Rights, ring: u32) -> Rights
     ensures { result ≡ on_ring r ring }
 {
-    Rights {
-        paging: r.paging,
-        extended: r.extended,
-        ring: ring,
-        normal: r.normal,
-        alternate: r.alternate,
-    }
+    Rights { ring, ..r }
 }
 
 // By STS, PCR and the control words for paging and extended mode.
@@ -67,8 +55,5 @@ pub fn rights(sts: u16, p: u16, paging: u16, extended: u16) -> Rights
 pub fn privileged(r: Rights) -> bool
     ensures { result ≡ privileged_by r }
 {
-    if r.paging {
-        return 2 <= r.ring;
-    }
-    true
+    !r.paging || 2 <= r.ring
 }

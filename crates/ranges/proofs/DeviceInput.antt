@@ -22,8 +22,6 @@ use Rattle.isa.specs.declared.machine.Control.{Control}
 use Rattle.isa.specs.declared.machine.State.{State}
 use Rattle.isa.specs.declared.device.DeviceInput.{DeviceInput}
 use Rattle.isa.specs.declared.device.DeviceInput.TheVariants.{Raise, Tick, Typed as TypedCharacter, ReadOut}
-use Rattle.isa.specs.declared.answer.Answer.{Answer}
-use Rattle.isa.specs.declared.answer.Answer.TheVariants.{Done, Refused}
 use Rattle.isa.specs.declared.answer.Refusal.TheVariants.{RaiseLevel, Unread}
 use Rattle.ranges.specs.Sound.{Sound, Sized, CharacterFits, EachInput}
 use Rattle.isa.proofs.Tests.{either, decided, and_right}
@@ -34,6 +32,8 @@ use Rattle.ranges.proofs.InputOutput.{ticked_fits, typed_fits, read_out_fits}
 use Rattle.ranges.proofs.States.{words_fit, state_fits, state_typed, state_range}
 use Rattle.ranges.proofs.Sizes.{step_sized}
 use Rattle.ranges.proofs.Run.{RunKeeps, run_keeps, step_sound}
+use Rattle.std.specs.declared.result.Result.TheVariants.{Ok, Err}
+use Rattle.isa.specs.Answers.{Answer}
 
 -- ---- raise, tick, a typed character, read out
 
@@ -60,28 +60,28 @@ module _ (s : State) (m t : List ℕ) (h : Sound s m t) where
 
   -- each by what its tests answer; a refusal changes nothing
   raise_by_sound : (l : ℕ) (a : Answer) → CallSound (raise_call_by (level_answer l a) s l)
-  raise_by_sound l Done =
-      decided (λ (a : Answer). CallSound (raise_call_by a s l)) (device_level l) {x = Done} {y = Refused RaiseLevel}
+  raise_by_sound l (Ok _) =
+      decided (λ (a : Answer). CallSound (raise_call_by a s l)) (device_level l) {x = Ok tt} {y = Err RaiseLevel}
       (λ e. words_sound s m t h _
       (λ q. pid_fits q (bit_below 16 l 1 s.control.pid (device_level_law l e) (omega arith) q.pid)))
       (λ e. h)
-  raise_by_sound l (Refused r) = h
+  raise_by_sound l (Err r) = h
 
   tick_by_sound : (a : Answer) → CallSound (tick_call_by a s)
-  tick_by_sound Done = words_sound s m t h (ticked (control_of s)) (λ q. ticked_fits q)
-  tick_by_sound (Refused r) = h
+  tick_by_sound (Ok _) = words_sound s m t h (ticked (control_of s)) (λ q. ticked_fits q)
+  tick_by_sound (Err r) = h
 
   type_by_sound : (w : ℕ) → w < character_range → (a : Answer) → CallSound (type_call_by (unread_answer s a) s w)
-  type_by_sound w k Done =
-      either (λ (a : Answer). CallSound (type_call_by a s w)) (is_unread s) {x = Refused Unread} {y = Done}
+  type_by_sound w k (Ok _) =
+      either (λ (a : Answer). CallSound (type_call_by a s w)) (is_unread s) {x = Err Unread} {y = Ok tt}
       h (words_sound s m t h (typed (control_of s) w) (λ q. typed_fits q k))
-  type_by_sound w k (Refused r) = h
+  type_by_sound w k (Err r) = h
 
   read_out_by_sound : (a : Answer) → SentSound (read_out_call_by a s)
-  read_out_by_sound Done =
+  read_out_by_sound (Ok _) =
       either (λ (x : State). Sound x m t) (waits s)
       (words_sound s m t h (read_out (control_of s)) (λ q. read_out_fits q)) h
-  read_out_by_sound (Refused r) = h
+  read_out_by_sound (Err r) = h
 
   -- the operations
   pub raise_sound : (l : ℕ) → CallSound (raise_call s l m t)
@@ -103,10 +103,10 @@ module _ (s : State) (m t : List ℕ) (h : Sound s m t) where
 -- an input within a run
 pub input_sound : (i : DeviceInput) → CharacterFits i → (s : State) (m t : List ℕ) → Sound s m t
     → Sound (input_call i s).state m t
-input_sound (Raise l) k s m t h = raise_by_sound s m t h l Done
-input_sound Tick k s m t h = tick_by_sound s m t h Done
-input_sound (TypedCharacter w) k s m t h = type_by_sound s m t h w k Done
-input_sound ReadOut k s m t h = read_out_by_sound s m t h Done
+input_sound (Raise l) k s m t h = raise_by_sound s m t h l (Ok tt)
+input_sound Tick k s m t h = tick_by_sound s m t h (Ok tt)
+input_sound (TypedCharacter w) k s m t h = type_by_sound s m t h w k (Ok tt)
+input_sound ReadOut k s m t h = read_out_by_sound s m t h (Ok tt)
 
 -- ---- inputs as words
 

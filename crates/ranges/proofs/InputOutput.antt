@@ -5,6 +5,7 @@ use native.Mathlib.Nat.{mod-lt}
 use native.Mathlib.Omega.{arith}
 use mathlib.Core.Path.{refl}
 use mathlib.Core.Bool.{Bool}
+use Rattle.std.specs.Prelude.{Option, Some, None}
 use lib.Dec.{eqb}
 use lib.Pow.{pow_pos, pow_mono}
 use Rattle.isa.specs.Machine.{level_count, bit}
@@ -25,9 +26,9 @@ use Rattle.isa.specs.declared.device.DeviceRegister.{DeviceRegister}
 use Rattle.isa.specs.declared.device.DeviceRegister.TheVariants.{ClockData, ClockCounter, ClockStatus, ClockControl}
 use Rattle.isa.specs.declared.device.DeviceRegister.TheVariants.{InputData, InputNothing, InputStatus, InputControl}
 use Rattle.isa.specs.declared.device.DeviceRegister.TheVariants.{OutputNothing, OutputData, OutputStatus}
-use Rattle.isa.specs.declared.device.DeviceRegister.TheVariants.{OutputControl, NoRegister}
+use Rattle.isa.specs.declared.device.DeviceRegister.TheVariants.{OutputControl}
 use Rattle.isa.specs.declared.device.Line.{Line}
-use Rattle.isa.specs.declared.device.Line.TheVariants.{OutputLine, InputLine, ClockLine, NoLine}
+use Rattle.isa.specs.declared.device.Line.TheVariants.{OutputLine, InputLine, ClockLine}
 use Rattle.isa.proofs.Tests.{either}
 use Rattle.isa.proofs.Bits.{bit_below}
 use Rattle.ranges.proofs.Files.{bit_two, with_word}
@@ -190,15 +191,14 @@ exchanged_fits q OutputNothing = a_fits q (omega arith)
 exchanged_fits q OutputData = control_fits q (character_sent_fits q.control _)
 exchanged_fits q OutputStatus = a_fits q (status_word_law _ _)
 exchanged_fits q OutputControl = control_fits q (output_controlled_fits q.control _)
-exchanged_fits q NoRegister = q
 
 -- ---- IDENT
 
-without_asking_fits : {d : Devices} → DevicesFit d → (i : Line) → DevicesFit (without_asking d i)
-without_asking_fits q OutputLine =
+without_asking_fits : {d : Devices} → DevicesFit d → (i : Option Line) → DevicesFit (without_asking d i)
+without_asking_fits q (Some OutputLine) =
     let x = q.output in
     output_placed q (record { enabled = x.enabled; waits = x.waits; asks = omega arith; character = x.character })
-without_asking_fits q InputLine =
+without_asking_fits q (Some InputLine) =
     let x = q.input in
     input_placed q
     (record {
@@ -208,11 +208,11 @@ without_asking_fits q InputLine =
       character = x.character;
       length = x.length;
     })
-without_asking_fits q ClockLine =
+without_asking_fits q (Some ClockLine) =
     let x = q.clock in clock_placed q (record { enabled = x.enabled; ready = x.ready; asks = omega arith })
-without_asking_fits q NoLine = q
+without_asking_fits q None = q
 
-pub identified_fits : {c : Core} → CoreFits c → (i : Line) → CoreFits (identified c i)
+pub identified_fits : {c : Core} → CoreFits c → (i : Option Line) → CoreFits (identified c i)
 identified_fits q i =
     control_fits (a_fits q (omega arith)) (devices_fit q.control q.control.pid
     (without_asking_fits q.control.devices i))

@@ -4,12 +4,12 @@ use Rattle.isa.specs.Machine.{level_count, register_words}
 use Prim.Native.Nat.{ℕ, suc, ◌+◌, ◌*◌, ◌%◌, ◌<◌}
 use native.Mathlib.Omega.{arith}
 use mathlib.Core.Path.{◌≡◌, refl, sym, subst, ◌∙◌}
-use mathlib.Core.Bool.{false, ◌&&◌}
+use mathlib.Core.Bool.{◌&&◌}
 use mathlib.Core.List.{List, [], ◌∷◌}
 use lib.ListN.{get_or, set, drop, length, length-set}
 use lib.Dec.{eqb}
 use Rattle.isa.specs.Machine.{Words, file_words, file_at, put_file, core_of, with_core, pcr_mask}
-use Rattle.isa.specs.Pages.{Tested, passes, words_at, rights_of}
+use Rattle.isa.specs.Pages.{Tested, words_at, rights_of}
 use Rattle.isa.specs.Step.{Turn, counted_turn, with_pcrs, place_of, register_at, kept, put_register, is_p, put_other, pcr_level}
 use Rattle.isa.specs.Step.{block_order, block_request, block_words, put_block, block_failed, block_stored, block_loaded}
 use Rattle.isa.specs.Step.{block_tested, far_stage}
@@ -20,16 +20,18 @@ use Rattle.isa.specs.declared.machine.Register.{Register}
 use Rattle.isa.specs.declared.machine.Register.TheVariants.{Sts, D, P, B, L, A, T, X}
 use Rattle.isa.specs.declared.access.AccessKind.{AccessKind}
 use Rattle.isa.specs.declared.access.AccessKind.TheVariants.{Read, Write}
-use Rattle.isa.specs.declared.access.Translation.{Translation}
+use Rattle.std.specs.declared.option.Option.{Option}
+use Rattle.std.specs.declared.option.Option.TheVariants.{None, Some}
+use Rattle.isa.specs.declared.access.Fault.{Fault}
 use Rattle.isa.specs.declared.answer.Far.{Far}
-use Rattle.isa.specs.declared.answer.Far.TheVariants.{Nothing, Call, ReadRegister, WriteRegister, ReadPcr, WritePcr}
+use Rattle.isa.specs.declared.answer.Far.TheVariants.{Call, ReadRegister, WriteRegister, ReadPcr, WritePcr}
 use Rattle.isa.specs.declared.answer.Far.TheVariants.{StoreBlock, LoadBlock}
 use Rattle.isa.proofs.Packing.{words_at_law, put_length}
-use Rattle.isa.proofs.Tests.{either, decided}
+use Rattle.isa.proofs.Tests.{either}
 use Rattle.ranges.proofs.Places.{Each, set_each, take_each, drop_each, paste_each, nil_words, cons_words}
 use Rattle.ranges.proofs.Files.{Fits, FileFits}
 use Rattle.ranges.proofs.Control.{PcrFits, CoreFits, pcr_mask_fits}
-use Rattle.ranges.proofs.Pages.{FaultFits, LentFits, rights_fit, faulted_fits, tested_fits, tested_fault}
+use Rattle.ranges.proofs.Pages.{FaultFits, FirstFits, after_test_fits, LentFits, rights_fit, faulted_fits, tested_fits, tested_fault}
 use Rattle.ranges.proofs.Pages.{stored_fits, read_words}
 use Rattle.ranges.proofs.States.{StateFits}
 
@@ -147,72 +149,72 @@ pub counted_turn_fits : (n : ℕ) {r : Turn} → TurnFits r → TurnFits (counte
 counted_turn_fits n h = record { state = h.state; lent = h.lent }
 
 -- a block's access that failed
-block_failed_fits : {s : State} → StateFits s → (x : Translation) (m t : List ℕ)
-    → passes x ≡ false → FaultFits x → LentFits m t → TurnFits (block_failed s x m t)
-block_failed_fits h x m t e f k = record { state = with_core_fits h (faulted_fits x e f (core_fits h)); lent = k }
+block_failed_fits : {s : State} → StateFits s → (x : Fault) (m t : List ℕ) → FaultFits x
+    → LentFits m t → TurnFits (block_failed s x m t)
+block_failed_fits h x m t f k = record { state = with_core_fits h (faulted_fits x f (core_fits h)); lent = k }
 
 -- SRB, with the tables after the block's tests and their first fault
 block_stored_fits : {s : State} → StateFits s → (l : ℕ) (m : List ℕ) (r : Tested)
-    → LentFits m r.tables → FaultFits r.fault → TurnFits (block_stored s l m r)
+    → LentFits m r.tables → FirstFits r.fault → TurnFits (block_stored s l m r)
 unfolding block_stored
 block_stored_fits {s} h l m r k f =
     counted_turn_fits r.made
-    (decided TurnFits (passes r.fault)
-    (λ e. record {
+    (after_test_fits TurnFits r.fault f
+    (record {
       state = h;
       lent = stored_fits r.places m r.tables (block_words s l block_order) k (block_words_law block_order h l);
     })
-    (λ e. block_failed_fits h r.fault m r.tables e f k))
+    (λ x g. block_failed_fits h x m r.tables g k))
 
 -- LRB
 block_loaded_fits : {s : State} → StateFits s → (l : ℕ) (m : List ℕ) (r : Tested)
-    → LentFits m r.tables → FaultFits r.fault → TurnFits (block_loaded s l m r)
+    → LentFits m r.tables → FirstFits r.fault → TurnFits (block_loaded s l m r)
 unfolding block_loaded
 block_loaded_fits {s} h l m r k f =
     counted_turn_fits r.made
-    (decided TurnFits (passes r.fault)
-    (λ e. record {
+    (after_test_fits TurnFits r.fault f
+    (record {
       state = put_block_fits block_order h l (words_at m r.tables r.places) (read_words k r.places);
       lent = k;
     })
-    (λ e. block_failed_fits h r.fault m r.tables e f k))
+    (λ x g. block_failed_fits h x m r.tables g k))
 
 -- a block's tests
 block_tested_fits : (x : AccessKind) (s : State) (m t : List ℕ) → LentFits m t
     → LentFits m (block_tested x s m t).tables
 block_tested_fits x s m t k = tested_fits (block_request x s) m t (length m) (rights_of (core_of s)) k
 
-block_fault : (x : AccessKind) (s : State) (m t : List ℕ) → FaultFits (block_tested x s m t).fault
+block_fault : (x : AccessKind) (s : State) (m t : List ℕ) → FirstFits (block_tested x s m t).fault
 block_fault x s m t = tested_fault (block_request x s) t (length m) (rights_fit (core_of s))
 
 -- MON's number is a word
-abbrev pub FarFits : Far → Type 0
-FarFits Nothing = Unit
-FarFits (Call w) = w < 65536
-FarFits (ReadRegister l r) = Unit
-FarFits (WriteRegister l r) = Unit
-FarFits ReadPcr = Unit
-FarFits WritePcr = Unit
-FarFits (StoreBlock l) = Unit
-FarFits (LoadBlock l) = Unit
+abbrev pub FarFits : Option Far → Type 0
+FarFits None = Unit
+FarFits (Some (Call w)) = w < 65536
+FarFits (Some (ReadRegister l r)) = Unit
+FarFits (Some (WriteRegister l r)) = Unit
+FarFits (Some ReadPcr) = Unit
+FarFits (Some WritePcr) = Unit
+FarFits (Some (StoreBlock l)) = Unit
+FarFits (Some (LoadBlock l)) = Unit
 
 -- what the running level left to be done
-pub far_fits : {s : State} → StateFits s → (n : ℕ) (m t : List ℕ) (x : Far) → FarFits x → LentFits m t
+pub far_fits : {s : State} → StateFits s → (n : ℕ) (m t : List ℕ) (x : Option Far) → FarFits x → LentFits m t
     → TurnFits (far_stage s n m t x)
 unfolding far_stage
-far_fits h n m t Nothing f k = record { state = h; lent = k }
-far_fits h n m t (Call w) f k = record { state = put_register_fits h 14 T w f; lent = k }
-far_fits {s} h n m t (ReadRegister l r) f k =
+far_fits h n m t None f k = record { state = h; lent = k }
+far_fits h n m t (Some (Call w)) f k = record { state = put_register_fits h 14 T w f; lent = k }
+far_fits {s} h n m t (Some (ReadRegister l r)) f k =
     record { state = put_register_fits h s.level A (register_at s l r) (register_word h l r); lent = k }
-far_fits {s} h n m t (WriteRegister l r) f k =
+far_fits {s} h n m t (Some (WriteRegister l r)) f k =
     record { state = put_other_fits h l r (register_at s s.level A) (register_word h s.level A); lent = k }
-far_fits {s} h n m t ReadPcr f k =
+far_fits {s} h n m t (Some ReadPcr) f k =
     let w : get_or s.pcr (pcr_level s) 0 < 65536 = omega (arith, (h.pcr (pcr_level s)).low) in
     record { state = put_register_fits h s.level A (get_or s.pcr (pcr_level s) 0) w; lent = k }
-far_fits {s} h n m t WritePcr f k =
+far_fits {s} h n m t (Some WritePcr) f k =
     let w : ℕ = register_at s s.level A in
     record { state = put_pcr_fits h (pcr_level s) (pcr_mask w) (pcr_mask_fits w); lent = k }
-far_fits {s} h n m t (StoreBlock l) f k =
+far_fits {s} h n m t (Some (StoreBlock l)) f k =
     block_stored_fits h l m (block_tested Write s m t) (block_tested_fits Write s m t k) (block_fault Write s m t)
-far_fits {s} h n m t (LoadBlock l) f k =
+far_fits {s} h n m t (Some (LoadBlock l)) f k =
     block_loaded_fits h l m (block_tested Read s m t) (block_tested_fits Read s m t k) (block_fault Read s m t)

@@ -1,28 +1,31 @@
 -- Accesses: the paging status of a fault, marks in the tables, words read and words stored.
 -- Assumes nothing.
-use Prim.Native.Nat.{ℕ, ◌*◌, ◌%◌, ◌<◌}
+use Prim.Native.Nat.{ℕ, ◌*◌, ◌<◌}
 use native.Mathlib.Omega.{arith}
-use mathlib.Core.Path.{◌≡◌}
-use mathlib.Core.Bool.{Bool, false, not, ◌&&◌}
+use mathlib.Core.Bool.{Bool, not, ◌&&◌}
 use mathlib.Core.List.{List, [], ◌∷◌}
 use lib.ListN.{drop, get_or, set}
 use lib.Dec.{eqb, ltb, leb}
-use borrow.Author.Tests.{eqb-false}
 use Rattle.isa.specs.Machine.{word_range, Words, flag, flag_ptm}
-use Rattle.isa.specs.Pages.{Entry, entry_at, slot_of, some_permit, needed, ring_allows, physical, paging_status, in_memory}
-use Rattle.isa.specs.Pages.{in_tables, within_memory, judged, table_of, in_window, translate, fault_of, pgs_after, passes}
-use Rattle.isa.specs.Pages.{first_status, held_after, mark_of, marked, Tested, test_all, word_at, words_at, Lent, store_all}
-use Rattle.isa.specs.Pages.{first_word, window_start, window_words, rights_of}
-use Rattle.isa.specs.Physical.{physical_place}
+use Rattle.isa.specs.Pages.{Entry, entry_at, slot_of, some_permit, needed, ring_allows, physical, paging_status}
+use Rattle.isa.specs.Pages.{within_memory, judged, table_of, in_window, translate, fault_number, pgs_after}
+use Rattle.isa.specs.Pages.{first_status, held_after, mark_of, marked, Tested, tested_first, test_all, after_test, word_at, words_at, Lent, store_all}
+use Rattle.isa.specs.Pages.{first_word, window_start, rights_of}
+use Rattle.isa.specs.Physical.{physical_place, test_physical}
 use Rattle.isa.specs.Step.{faulted}
 use Rattle.isa.specs.declared.machine.Core.{Core}
 use Rattle.isa.specs.declared.access.Access.{Access}
 use Rattle.isa.specs.declared.access.AccessKind.{AccessKind}
 use Rattle.isa.specs.declared.access.AccessKind.TheVariants.{Fetch, Read, Write, Indirect}
 use Rattle.isa.specs.declared.access.Rights.{Rights}
-use Rattle.isa.specs.declared.access.Translation.{Translation}
-use Rattle.isa.specs.declared.access.Translation.TheVariants.{NoAccess, Load, Store, LoadTable, StoreTable}
-use Rattle.isa.specs.declared.access.Translation.TheVariants.{Protection, PageFault, OutOfRange}
+use Rattle.std.specs.declared.option.Option.{Option}
+use Rattle.std.specs.declared.option.Option.TheVariants.{None, Some}
+use Rattle.std.specs.declared.result.Result.{Result}
+use Rattle.std.specs.declared.result.Result.TheVariants.{Ok, Err}
+use Rattle.isa.specs.declared.access.Place.{Place}
+use Rattle.isa.specs.declared.access.Place.TheVariants.{Load, Store, LoadTable, StoreTable}
+use Rattle.isa.specs.declared.access.Fault.{Fault}
+use Rattle.isa.specs.declared.access.Fault.TheVariants.{Protection, PageFault, OutOfRange}
 use Rattle.isa.proofs.Tables.{Lasting, marked_keeps, tested_keeps}
 use Rattle.isa.proofs.Tests.{either}
 use Rattle.ranges.proofs.Places.{Each, set_words, nil_words, cons_words, drop_each}
@@ -47,15 +50,25 @@ table_below : {r : Rights} → RightsFit r → (b : Bool) → table_of r b < 4
 table_below h b = either (λ (n : ℕ). n < 4) b h.alternate h.normal
 
 -- a fault's paging status is in its bits
-abbrev pub FaultFits : Translation → Type 0
-FaultFits NoAccess = Unit
-FaultFits (Load p) = Unit
-FaultFits (Store p) = Unit
-FaultFits (LoadTable i) = Unit
-FaultFits (StoreTable i) = Unit
+abbrev pub FaultFits : Fault → Type 0
 FaultFits (Protection g) = PgsFits g
 FaultFits (PageFault g) = PgsFits g
 FaultFits OutOfRange = Unit
+
+-- .. of an access, and of the first in a list that failed, if one did
+abbrev pub OutcomeFits : Result Place Fault → Type 0
+OutcomeFits (Ok p) = Unit
+OutcomeFits (Err f) = FaultFits f
+
+abbrev pub FirstFits : Option Fault → Type 0
+FirstFits None = Unit
+FirstFits (Some f) = FaultFits f
+
+-- what follows the tests of accesses, by the first fault
+pub after_test_fits : {A : Type 0} (P : A → Type 0) (x : Option Fault) {y : A} {g : Fault → A} → FirstFits x → P y
+    → ((f : Fault) → FaultFits f → P (g f)) → P (after_test x y g)
+after_test_fits P None h p q = p
+after_test_fits P (Some f) h p q = q f h
 
 -- the permit bit is missing times 16,384
 status_fits : (k : AccessKind) (missing slot : ℕ) → missing < 2 → slot < 256
@@ -65,61 +78,42 @@ status_fits Read n slot h l = record { clear = omega arith; word = omega arith }
 status_fits Write n slot h l = record { clear = omega arith; word = omega arith }
 status_fits Indirect n slot h l = record { clear = omega arith; word = omega arith }
 
--- an access that passed gives no status: in memory, and in the tables
-in_memory_fits : (k : AccessKind) (p : ℕ) → FaultFits (in_memory k p)
-in_memory_fits Fetch p = tt
-in_memory_fits Read p = tt
-in_memory_fits Write p = tt
-in_memory_fits Indirect p = tt
-
-in_tables_fits : (k : AccessKind) (i : ℕ) → FaultFits (in_tables k i)
-in_tables_fits Fetch i = tt
-in_tables_fits Read i = tt
-in_tables_fits Write i = tt
-in_tables_fits Indirect i = tt
-
--- nor does a page beyond the memory
-within_fits : (words : ℕ) (k : AccessKind) (p : ℕ) → FaultFits (within_memory words k p)
+-- a page beyond the memory gives no status
+within_fits : (words : ℕ) (k : AccessKind) (p : ℕ) → OutcomeFits (within_memory words k p)
 unfolding within_memory
-within_fits words k p = either FaultFits (ltb p words) (in_memory_fits k p) tt
+within_fits words k p = either OutcomeFits (ltb p words) tt tt
 
 -- by an entry
 judged_fits : (e : Entry) (slot words ring : ℕ) (k : AccessKind) (a : ℕ) → slot < 256
-    → FaultFits (judged e slot words ring k a)
+    → OutcomeFits (judged e slot words ring k a)
 unfolding judged
 judged_fits e slot words ring k a h =
-    either FaultFits (not (some_permit e)) (status_fits k 1 slot (omega arith) h)
-    (either FaultFits (not (needed e k)) (status_fits k 1 slot (omega arith) h)
-    (either FaultFits (not (ring_allows e ring)) (status_fits k 0 slot (omega arith) h)
+    either OutcomeFits (not (some_permit e)) (status_fits k 1 slot (omega arith) h)
+    (either OutcomeFits (not (needed e k)) (status_fits k 1 slot (omega arith) h)
+    (either OutcomeFits (not (ring_allows e ring)) (status_fits k 0 slot (omega arith) h)
     (within_fits words k (physical e a))))
 
 -- one access
 pub translated_fits : (t : List ℕ) (words : ℕ) {r : Rights} → RightsFit r → (x : Access)
-    → FaultFits (translate t words r x)
+    → OutcomeFits (translate t words r x)
 unfolding translate
 translated_fits t words {r} h x =
     let i : ℕ = slot_of (table_of r x.alternate) x.address in
     let n : table_of r x.alternate < 4 = table_below h x.alternate in
     let l : i < 256 = omega arith in
     let e : Entry = entry_at r.extended t i in
-    either FaultFits (in_window r x.address) (in_tables_fits x.kind (x.address % window_words r.extended))
-    (either FaultFits r.paging (judged_fits e i words r.ring x.kind x.address l)
+    either OutcomeFits (in_window r x.address) tt
+    (either OutcomeFits r.paging (judged_fits e i words r.ring x.kind x.address l)
     (within_fits words x.kind x.address))
 
 -- .. and one by a physical address
-pub physical_fits : (form : Bool) (words : ℕ) (k : AccessKind) (p : ℕ) → FaultFits (physical_place form words k p)
+pub physical_fits : (form : Bool) (words : ℕ) (k : AccessKind) (p : ℕ) → OutcomeFits (physical_place form words k p)
 unfolding physical_place
 physical_fits form words k p =
-    either FaultFits (leb (window_start form) p && ltb p word_range) (in_tables_fits k (p % window_words form))
-    (within_fits words k p)
+    either OutcomeFits (leb (window_start form) p && ltb p word_range) tt (within_fits words k p)
 
--- PGS after an access
-after_fits : {g : ℕ} → PgsFits g → (x : Translation) → FaultFits x → PgsFits (pgs_after g x)
-after_fits h NoAccess f = h
-after_fits h (Load p) f = h
-after_fits h (Store p) f = h
-after_fits h (LoadTable i) f = h
-after_fits h (StoreTable i) f = h
+-- PGS after an access that failed
+after_fits : {g : ℕ} → PgsFits g → (x : Fault) → FaultFits x → PgsFits (pgs_after g x)
 after_fits h (Protection g) f = f
 after_fits h (PageFault g) f = f
 after_fits h OutOfRange f = h
@@ -128,47 +122,47 @@ after_fits h OutOfRange f = h
 first_fits : (held : ℕ) {old g : ℕ} → PgsFits old → PgsFits g → PgsFits (first_status held old g)
 first_fits held a b = either PgsFits (eqb held 1) a b
 
--- whether PGS is held after an access
-held_fits : {old : ℕ} → old < 2 → (x : Translation) → held_after old x < 2
-held_fits h NoAccess = h
-held_fits h (Load p) = h
-held_fits h (Store p) = h
-held_fits h (LoadTable i) = h
-held_fits h (StoreTable i) = h
+-- whether PGS is held then
+held_fits : {old : ℕ} → old < 2 → (x : Fault) → held_after old x < 2
 held_fits h (Protection g) = omega arith
 held_fits h (PageFault g) = omega arith
 held_fits h OutOfRange = h
 
--- an access gives an interrupt below 11
-fault_below : (x : Translation) → fault_of x < 11
-fault_below NoAccess = omega arith
-fault_below (Load p) = omega arith
-fault_below (Store p) = omega arith
-fault_below (LoadTable i) = omega arith
-fault_below (StoreTable i) = omega arith
-fault_below (Protection g) = omega arith
-fault_below (PageFault g) = omega arith
-fault_below OutOfRange = omega arith
+-- it gives one of the interrupts 1 to 10
+fault_below : (x : Fault) → (0 < fault_number x) × (fault_number x < 11)
+fault_below (Protection g) = (omega arith, omega arith)
+fault_below (PageFault g) = (omega arith, omega arith)
+fault_below OutOfRange = (omega arith, omega arith)
 
--- the core after an access that failed
-pub faulted_fits : (x : Translation) {c : Core} → passes x ≡ false → FaultFits x → CoreFits c → CoreFits (faulted x c)
+-- the core after it
+pub faulted_fits : (x : Fault) {c : Core} → FaultFits x → CoreFits c → CoreFits (faulted x c)
 unfolding faulted
-faulted_fits x {c} e f q =
-    let n : fault_of x ≡ 0 → ⊥ = eqb-false (fault_of x) 0 e in
+faulted_fits x {c} f q =
     let k = q.control in
     let g = first_fits c.control.held k.pgs (after_fits k.pgs x f) in
-    gives_fits (fault_of x) (omega arith) (fault_below x) (control_fits q (status_fit k g (held_fits k.held x)))
+    let n = fault_below x in
+    gives_fits (fault_number x) n.0 n.1 (control_fits q (status_fit k g (held_fits k.held x)))
 
 -- ---- marks and tests
 
 -- the first fault is that of an access
+first_tested : (t : List ℕ) (x : Result Place Fault) (q : Tested) → OutcomeFits x → FirstFits q.fault
+    → FirstFits (tested_first t x q).fault
+first_tested t (Ok p) q h k = k
+first_tested t (Err f) q h k = h
+
+pub physical_fault : (t : List ℕ) (form : Bool) (words : ℕ) (k : AccessKind) (ps : List ℕ)
+    → FirstFits (test_physical t form words k ps).fault
+physical_fault t form words k [] = tt
+physical_fault t form words k (p ∷ ps) =
+    first_tested t (physical_place form words k p) _ (physical_fits form words k p) (physical_fault t form words k ps)
+
 pub tested_fault : (xs : List Access) (t : List ℕ) (words : ℕ) {r : Rights} → RightsFit r
-    → FaultFits (test_all t words r xs).fault
+    → FirstFits (test_all t words r xs).fault
 tested_fault [] t words h = tt
 tested_fault (x ∷ xs) t words {r} h =
-    either (λ (y : Tested). FaultFits y.fault) (passes (translate t words r x))
+    first_tested t (translate t words r x) _ (translated_fits t words h x)
     (tested_fault xs (marked t words r x) words h)
-    (translated_fits t words h x)
 
 -- a marked entry is a word
 mark_word : (k : AccessKind) (e : ℕ) → e < 65536 → mark_of k e < 65536
@@ -193,10 +187,9 @@ pub record Kept (M T : List ℕ → Type 0) (r : Lent) : Type 0 where
 -- what a store of a word of some kind keeps of memory and tables, a row of stores keeps
 module _ (W : ℕ → Type 0) (M T : List ℕ → Type 0) (store : (l : List ℕ) (i v : ℕ) → M l → W v → M (set l i v))
     (storeTable : (l : List ℕ) (i v : ℕ) → T l → W v → T (set l i v)) where
-  pub stored_keeps : (xs : List Translation) (m t ws : List ℕ) → M m → T t → Each (λ i. W) ws
+  pub stored_keeps : (xs : List Place) (m t ws : List ℕ) → M m → T t → Each (λ i. W) ws
       → Kept M T (store_all m t xs ws)
   stored_keeps [] m t ws p q h = record { memory = p; tables = q }
-  stored_keeps (NoAccess ∷ xs) m t ws p q h = stored_keeps xs m t ws p q h
   stored_keeps (Load a ∷ xs) m t ws p q h = stored_keeps xs m t ws p q h
   stored_keeps (Store a ∷ xs) m t ws p q h =
       stored_keeps xs (set m a (get_or ws 0 0)) t (drop 1 ws) (store m a (get_or ws 0 0) p (h 0)) q
@@ -205,9 +198,6 @@ module _ (W : ℕ → Type 0) (M T : List ℕ → Type 0) (store : (l : List ℕ
   stored_keeps (StoreTable a ∷ xs) m t ws p q h =
       stored_keeps xs m (set t a (get_or ws 0 0)) (drop 1 ws) p (storeTable t a (get_or ws 0 0) q (h 0))
       (drop_each (λ i. W) 1 ws h)
-  stored_keeps (Protection g ∷ xs) m t ws p q h = stored_keeps xs m t ws p q h
-  stored_keeps (PageFault g ∷ xs) m t ws p q h = stored_keeps xs m t ws p q h
-  stored_keeps (OutOfRange ∷ xs) m t ws p q h = stored_keeps xs m t ws p q h
 
 -- ---- memory and tables in range
 
@@ -227,24 +217,20 @@ tested_fits xs m t words r h =
     record { memory = h.memory; tables = tested_keeps Words r (mark_words r.extended) xs t words h.tables }
 
 -- .. after its stores
-pub stored_fits : (xs : List Translation) (m t ws : List ℕ) → LentFits m t → Words ws
+pub stored_fits : (xs : List Place) (m t ws : List ℕ) → LentFits m t → Words ws
     → LentFits (store_all m t xs ws).memory (store_all m t xs ws).tables
 stored_fits xs m t ws h w =
     let r = stored_keeps (λ v. v < 65536) Words Words set_words set_words xs m t ws h.memory h.tables w in
     record { memory = r.memory; tables = r.tables }
 
 -- the word read at a place is a word
-pub word_at_word : {m t : List ℕ} → LentFits m t → (x : Translation) → word_at m t x < 65536
-word_at_word h NoAccess = omega arith
+pub word_at_word : {m t : List ℕ} → LentFits m t → (x : Place) → word_at m t x < 65536
 word_at_word h (Load p) = h.memory p
 word_at_word h (Store p) = omega arith
 word_at_word h (LoadTable i) = h.tables i
 word_at_word h (StoreTable i) = omega arith
-word_at_word h (Protection g) = omega arith
-word_at_word h (PageFault g) = omega arith
-word_at_word h OutOfRange = omega arith
 
 -- .. and so are those read at places
-pub read_words : {m t : List ℕ} → LentFits m t → (xs : List Translation) → Words (words_at m t xs)
+pub read_words : {m t : List ℕ} → LentFits m t → (xs : List Place) → Words (words_at m t xs)
 read_words h [] = nil_words
 read_words {m} {t} h (x ∷ xs) = cons_words (word_at m t x) (words_at m t xs) (word_at_word h x) (read_words h xs)

@@ -3,20 +3,22 @@
 use Prim.Native.Nat.{ℕ}
 use mathlib.Core.Path.{◌≡◌, ◌∙◌}
 use mathlib.Core.Bool.{Bool}
-use mathlib.Core.List.{List, [], ◌∷◌}
+use Rattle.std.specs.Prelude.{Option, Some}
+use mathlib.Core.List.{List}
 use lib.ListN.{get_or, set, length, length-set}
 use lib.Dec.{ltb, eqb}
 use Rattle.isa.specs.Machine.{next_core, reg, core_of, with_core}
 use Rattle.isa.specs.Instructions.{indirect_request, request, complete, Completed}
-use Rattle.isa.specs.Pages.{translate, marked, test_all, Tested, passes, word_at, words_at, words_of, store_all, rights_of}
+use Rattle.isa.specs.Pages.{translate, marked, test_all, Tested, word_at, words_at, words_of, store_all, rights_of}
 use Rattle.isa.specs.Pages.{first_word, mark_of}
-use Rattle.isa.specs.Physical.{transfer_address, transfer_stores, first_place, second_place, first_fault}
+use Rattle.isa.specs.Physical.{transfer_address, transfer_stores, transfer_kind, word_addresses, test_physical}
 use Rattle.isa.specs.Step.{Part, Turn, finished, operands_tested, operands, indirect_tested, user_stage, physical_address}
 use Rattle.isa.specs.Step.{examined, deposited, transfer_stage, system_stage, privileged, instruction_stage}
 use Rattle.isa.specs.Step.{instruction_of, after_fetch, fetched, fetch_of, step_in, block_order, block_request, block_words}
 use Rattle.isa.specs.Step.{device_stage, ident_stage}
-use Rattle.isa.specs.InputOutput.{register_of, answers, line_of, flip_flop}
+use Rattle.isa.specs.InputOutput.{register_of, line_of, flip_flop}
 use Rattle.isa.specs.Step.{block_stored, block_loaded, block_tested, far_stage, settled, is_stopped, change_due, step}
+use Rattle.isa.specs.declared.device.DeviceRegister.{DeviceRegister}
 use Rattle.isa.specs.declared.machine.Core.{Core}
 use Rattle.isa.specs.declared.machine.State.{State}
 use Rattle.isa.specs.declared.machine.Register.TheVariants.{T}
@@ -31,12 +33,17 @@ use Rattle.isa.specs.declared.access.Access.{Access}
 use Rattle.isa.specs.declared.access.AccessKind.{AccessKind}
 use Rattle.isa.specs.declared.access.AccessKind.TheVariants.{Read, Write}
 use Rattle.isa.specs.declared.access.Rights.{Rights}
-use Rattle.isa.specs.declared.access.Translation.{Translation}
+use Rattle.std.specs.declared.option.Option.{Option}
+use Rattle.std.specs.declared.option.Option.TheVariants.{None, Some}
+use Rattle.std.specs.declared.result.Result.{Result}
+use Rattle.std.specs.declared.result.Result.TheVariants.{Ok, Err}
+use Rattle.isa.specs.declared.access.Place.{Place}
+use Rattle.isa.specs.declared.access.Fault.{Fault}
 use Rattle.isa.specs.declared.answer.Far.{Far}
-use Rattle.isa.specs.declared.answer.Far.TheVariants.{Nothing, Call, ReadRegister, WriteRegister, ReadPcr, WritePcr}
+use Rattle.isa.specs.declared.answer.Far.TheVariants.{Call, ReadRegister, WriteRegister, ReadPcr, WritePcr}
 use Rattle.isa.specs.declared.answer.Far.TheVariants.{StoreBlock, LoadBlock}
 use Rattle.ranges.specs.Sound.{Sized}
-use Rattle.isa.proofs.Tests.{either}
+use Rattle.isa.proofs.Tests.{either, by_fault}
 use Rattle.isa.proofs.Tables.{Lasting, marked_keeps, tested_keeps}
 use Rattle.ranges.proofs.Pages.{stored_keeps}
 
@@ -75,7 +82,7 @@ module _ (j k : ℕ) where
       record { memory = h.memory; tables = tested_keeps (Long k) r (mark_long r.extended k) xs t words h.tables }
 
   -- its stores
-  stored_size : (xs : List Translation) (m t ws : List ℕ) → Sized j k m t
+  stored_size : (xs : List Place) (m t ws : List ℕ) → Sized j k m t
       → Sized j k (store_all m t xs ws).memory (store_all m t xs ws).tables
   stored_size xs m t ws h =
       let r = stored_keeps (λ v. Unit) (Long j) (Long k) (set_long j) (set_long k) xs m t ws h.memory h.tables
@@ -85,7 +92,7 @@ module _ (j k : ℕ) where
   -- ---- the running level
 
   -- its words stored
-  finished_size : (c : Core) (m t : List ℕ) (xs : List Translation) (d : Completed) → Sized j k m t
+  finished_size : (c : Core) (m t : List ℕ) (xs : List Place) (d : Completed) → Sized j k m t
       → PartSized (finished c m t xs d)
   unfolding finished
   finished_size c m t xs d h = stored_size xs m t d.stores h
@@ -96,7 +103,7 @@ module _ (j k : ℕ) where
   unfolding operands_tested
   operands_tested_size c m u i r h =
       let d : Completed = complete u c.file i (words_at m r.tables r.places) in
-      either PartSized (passes r.fault) (finished_size c m r.tables r.places d h) h
+      by_fault PartSized r.fault (finished_size c m r.tables r.places d h) (λ x. h)
 
   -- its accesses asked for
   operands_size : (c : Core) (m t : List ℕ) (u : User) (i : ℕ) → Sized j k m t → PartSized (operands c m t u i)
@@ -111,8 +118,8 @@ module _ (j k : ℕ) where
       → PartSized (indirect_tested c m u r)
   unfolding indirect_tested
   indirect_tested_size c m u r h =
-      either PartSized (passes r.fault)
-      (operands_size c m r.tables u (get_or (words_at m r.tables r.places) 0 0) h) h
+      by_fault PartSized r.fault
+      (operands_size c m r.tables u (get_or (words_at m r.tables r.places) 0 0) h) (λ x. h)
 
   -- an unprivileged instruction
   user_size : (c : Core) (m t : List ℕ) (u : User) → Sized j k m t → PartSized (user_stage c m t u)
@@ -129,14 +136,17 @@ module _ (j k : ℕ) where
   transfer_size c m t o d h =
       let form : Bool = eqb c.control.extended 1 in
       let p : ℕ = transfer_address c.file d in
-      let x : Translation = first_place form (length m) o p in
-      let y : Translation = second_place form (length m) o p in
-      either PartSized (passes (first_fault x y))
-      (stored_size (x ∷ y ∷ []) m t (words_of (transfer_stores o c.file)) h) h
+      let r : Tested = test_physical t form (length m) (transfer_kind o) (word_addresses o p) in
+      by_fault PartSized r.fault (stored_size r.places m t (words_of (transfer_stores o c.file)) h) (λ x. h)
+
+  device_size : (c : Core) (m t : List ℕ) (r : Option DeviceRegister) → Sized j k m t → PartSized (device_stage c m t r)
+  unfolding device_stage
+  device_size c m t (Some r) h = h
+  device_size c m t _ h = h
 
   -- a privileged instruction
   system_size : (l : ℕ) (c : Core) (m t : List ℕ) (o : System) → Sized j k m t → PartSized (system_stage l c m t o)
-  unfolding examined deposited device_stage ident_stage
+  unfolding examined deposited ident_stage
   system_size l c m t (ControlOf o) h = h
   system_size l c m t TraPgc h = h
   system_size l c m t TrrPcr h = h
@@ -152,8 +162,8 @@ module _ (j k : ℕ) where
         tables = h.tables;
       }) h
   system_size l c m t (Physical o d) h = transfer_size c m t o d h
-  system_size l c m t (Iox n) h = either PartSized (answers (register_of n)) h h
-  system_size l c m t Ioxt h = either PartSized (answers (register_of (reg c.file T))) h h
+  system_size l c m t (Iox n) h = device_size c m t (register_of n) h
+  system_size l c m t Ioxt h = device_size c m t (register_of (reg c.file T)) h
   system_size l c m t (Ident n) h = either PartSized (eqb (flip_flop c.control.devices (line_of n)) 1) h h
 
   -- an instruction
@@ -167,11 +177,12 @@ module _ (j k : ℕ) where
   instruction_size l c m t Illegal h = h
 
   -- the word fetched, or the fetch failed
-  fetched_size : (l : ℕ) (c : Core) (m t : List ℕ) (ring : ℕ) (x : Translation) → Sized j k m t
+  fetched_size : (l : ℕ) (c : Core) (m t : List ℕ) (ring : ℕ) (x : Result Place Fault) → Sized j k m t
       → PartSized (fetched l c m t ring x)
   unfolding fetched
-  fetched_size l c m t ring x h =
-      either PartSized (passes x) (instruction_size l (after_fetch c ring x) m t (instruction_of c (word_at m t x)) h) h
+  fetched_size l c m t ring (Ok p) h =
+      instruction_size l (after_fetch c ring p) m t (instruction_of c (word_at m t p)) h
+  fetched_size l c m t ring (Err f) h = h
 
   -- the running level
   step_in_size : (l : ℕ) (c : Core) (m t : List ℕ) → Sized j k m t → PartSized (step_in l c m t)
@@ -192,25 +203,27 @@ module _ (j k : ℕ) where
       → TurnSized (block_stored s l m r)
   unfolding block_stored
   block_stored_size s l m r h =
-      either TurnSized (passes r.fault) (stored_size r.places m r.tables (block_words s l block_order) h) h
+      by_fault TurnSized r.fault (stored_size r.places m r.tables (block_words s l block_order) h) (λ x. h)
 
   -- LRB
   block_loaded_size : (s : State) (l : ℕ) (m : List ℕ) (r : Tested) → Sized j k m r.tables
       → TurnSized (block_loaded s l m r)
   unfolding block_loaded
-  block_loaded_size s l m r h = either TurnSized (passes r.fault) h h
+  block_loaded_size s l m r h = by_fault TurnSized r.fault h (λ x. h)
 
   -- what the running level left to be done
-  far_size : (s : State) (n : ℕ) (m t : List ℕ) (x : Far) → Sized j k m t → TurnSized (far_stage s n m t x)
+  far_size : (s : State) (n : ℕ) (m t : List ℕ) (x : Option Far) → Sized j k m t → TurnSized (far_stage s n m t x)
   unfolding far_stage
-  far_size s n m t Nothing h = h
-  far_size s n m t (Call w) h = h
-  far_size s n m t (ReadRegister l r) h = h
-  far_size s n m t (WriteRegister l r) h = h
-  far_size s n m t ReadPcr h = h
-  far_size s n m t WritePcr h = h
-  far_size s n m t (StoreBlock l) h = block_stored_size s l m (block_tested Write s m t) (block_size Write s m t h)
-  far_size s n m t (LoadBlock l) h = block_loaded_size s l m (block_tested Read s m t) (block_size Read s m t h)
+  far_size s n m t None h = h
+  far_size s n m t (Some (Call w)) h = h
+  far_size s n m t (Some (ReadRegister l r)) h = h
+  far_size s n m t (Some (WriteRegister l r)) h = h
+  far_size s n m t (Some ReadPcr) h = h
+  far_size s n m t (Some WritePcr) h = h
+  far_size s n m t (Some (StoreBlock l)) h =
+      block_stored_size s l m (block_tested Write s m t) (block_size Write s m t h)
+  far_size s n m t (Some (LoadBlock l)) h =
+      block_loaded_size s l m (block_tested Read s m t) (block_size Read s m t h)
 
   -- ---- one step
 

@@ -1,23 +1,24 @@
 -- The stages of a step, and a step, leave all in range.
 -- Assumes nothing.
-use Prim.Native.Nat.{ℕ, ◌+◌, ◌*◌, ◌%◌, ◌<◌}
+use Prim.Native.Nat.{ℕ, ◌*◌, ◌%◌, ◌<◌}
 use native.Mathlib.Omega.{arith}
-use mathlib.Core.Path.{◌≡◌, refl}
-use mathlib.Core.Bool.{Bool, false}
+use mathlib.Core.Path.{refl}
+use mathlib.Core.Bool.{Bool}
+use Rattle.std.specs.Prelude.{Option, Some, None}
 use mathlib.Core.List.{List, [], ◌∷◌}
 use lib.ListN.{get_or, set, length}
 use lib.Dec.{ltb, eqb}
 use lib.Bits.{bit_and, or_lt}
 use Rattle.isa.specs.Machine.{word_range, level_count, Words, reg, core_of}
 use Rattle.isa.specs.Instructions.{indirect_request, request, complete, Completed}
-use Rattle.isa.specs.Pages.{translate, marked, test_all, Tested, passes, word_at, words_at, words_of, rights_of}
-use Rattle.isa.specs.Physical.{transfer_address, transfer_kind, two_words, triple, transfer_stores, transferred, first_place}
-use Rattle.isa.specs.Physical.{second_place, first_fault, transfer_made}
+use Rattle.isa.specs.Pages.{translate, marked, test_all, Tested, word_at, words_at, words_of, rights_of}
+use Rattle.isa.specs.Physical.{transfer_address, transfer_kind, triple, transfer_stores, transferred}
+use Rattle.isa.specs.Physical.{word_addresses, test_physical}
 use Rattle.isa.specs.Step.{Part, part, counted, failed, trapped, finished_core, finished, operands_tested, operands}
 use Rattle.isa.specs.Step.{indirect_tested, user_stage, physical_address, examined, deposited, transfer_stage, system_stage}
 use Rattle.isa.specs.Step.{privileged, instruction_stage, instruction_of, after_fetch, fetched, fetch_of, step_in, settled}
 use Rattle.isa.specs.Step.{is_stopped, change_due, level_changed, step, device_stage, ident_stage}
-use Rattle.isa.specs.InputOutput.{register_of, answers, line_of, flip_flop}
+use Rattle.isa.specs.InputOutput.{register_of, line_of, flip_flop}
 use Rattle.isa.specs.declared.device.DeviceRegister.{DeviceRegister}
 use Rattle.isa.specs.declared.device.Line.{Line}
 use Rattle.isa.specs.declared.machine.Core.{Core}
@@ -32,21 +33,27 @@ use Rattle.isa.specs.declared.instruction.Transfer.{Transfer}
 use Rattle.isa.specs.declared.instruction.Transfer.TheVariants.{Ldatx, Ldxtx, Lddtx, Ldbtx, Statx, Stztx, Stdtx}
 use Rattle.isa.specs.declared.instruction.Instruction.{Instruction}
 use Rattle.isa.specs.declared.instruction.Instruction.TheVariants.{Unprivileged, Privileged, Execute, Monitor, Illegal}
-use Rattle.isa.specs.declared.access.Translation.{Translation}
-use Rattle.isa.specs.declared.access.Translation.TheVariants.{NoAccess, Load, Store, LoadTable, StoreTable}
-use Rattle.isa.specs.declared.access.Translation.TheVariants.{Protection, PageFault, OutOfRange}
+use Rattle.std.specs.declared.option.Option.{Option}
+use Rattle.std.specs.declared.option.Option.TheVariants.{Some}
+use Rattle.std.specs.declared.result.Result.{Result}
+use Rattle.std.specs.declared.result.Result.TheVariants.{Ok, Err}
+use Rattle.isa.specs.declared.access.Place.{Place}
+use Rattle.isa.specs.declared.access.Fault.{Fault}
+use Rattle.isa.specs.declared.access.Place.TheVariants.{Load, Store, LoadTable, StoreTable}
+use Rattle.isa.specs.declared.access.Fault.TheVariants.{OutOfRange}
 use Rattle.isa.specs.declared.answer.Far.{Far}
 use Rattle.isa.specs.declared.answer.Far.TheVariants.{ReadRegister, WriteRegister, ReadPcr, WritePcr, StoreBlock}
 use Rattle.isa.specs.declared.answer.Far.TheVariants.{LoadBlock}
-use Rattle.isa.proofs.Tests.{either, decided}
+use Rattle.isa.proofs.Tests.{either}
 use Rattle.isa.proofs.Signed.{bits_below}
 use Rattle.ranges.proofs.Files.{FileFits, reg_word, with_word}
 use Rattle.ranges.proofs.Instructions.{Completes, completes}
 use Rattle.ranges.proofs.Control.{CoreFits, file_fits, next_core_fits, gives_fits, lowered_fits, levels_fit}
 use Rattle.ranges.proofs.Control.{highest_below, controlled_fits}
 use Rattle.ranges.proofs.InputOutput.{exchanged_fits, identified_fits}
-use Rattle.ranges.proofs.Pages.{FaultFits, LentFits, rights_fit, translated_fits, physical_fits, faulted_fits}
-use Rattle.ranges.proofs.Pages.{marked_fits, tested_fits, tested_fault, stored_fits, word_at_word, read_words}
+use Rattle.ranges.proofs.Pages.{FaultFits, OutcomeFits, FirstFits, after_test_fits, LentFits, rights_fit, translated_fits}
+use Rattle.ranges.proofs.Pages.{physical_fault, faulted_fits}
+use Rattle.ranges.proofs.Pages.{marked_fits, tested_fits, tested_fault, stored_fits, read_words}
 use Rattle.ranges.proofs.Places.{set_words, nil_words, cons_words}
 use Rattle.ranges.proofs.States.{StateFits}
 use Rattle.ranges.proofs.Packing.{FarFits, TurnFits, counted_turn_fits, core_fits, with_core_fits}
@@ -65,9 +72,9 @@ counted_fits n h = record { core = h.core; far = h.far; lent = h.lent }
 -- ---- faults and traps
 
 -- an access that failed
-failed_fits : {c : Core} → CoreFits c → (x : Translation) (m t : List ℕ)
-    → passes x ≡ false → FaultFits x → LentFits m t → PartFits (failed c x m t)
-failed_fits h x m t e f k = record { core = faulted_fits x e f h; far = tt; lent = k }
+failed_fits : {c : Core} → CoreFits c → (x : Fault) (m t : List ℕ) → FaultFits x → LentFits m t
+    → PartFits (failed c x m t)
+failed_fits h x m t f k = record { core = faulted_fits x f h; far = tt; lent = k }
 
 -- an interrupt that is not by an access
 trapped_fits : (n : ℕ) {c : Core} → 0 < n → n < 11 → CoreFits c → (m t : List ℕ) → LentFits m t
@@ -83,7 +90,7 @@ finished_core_fits h d q =
     (file_fits h q.file)
 
 -- .. and its words stored
-finished_fits : {c : Core} → CoreFits c → (m t : List ℕ) (xs : List Translation) (d : Completed)
+finished_fits : {c : Core} → CoreFits c → (m t : List ℕ) (xs : List Place) (d : Completed)
     → LentFits m t → Completes d → PartFits (finished c m t xs d)
 unfolding finished
 finished_fits h m t xs d k q =
@@ -91,15 +98,15 @@ finished_fits h m t xs d k q =
 
 -- its accesses tested
 operands_tested_fit : {c : Core} → CoreFits c → (m : List ℕ) (u : User) (i : ℕ) (r : Tested)
-    → i < 65536 → LentFits m r.tables → FaultFits r.fault → PartFits (operands_tested c m u i r)
+    → i < 65536 → LentFits m r.tables → FirstFits r.fault → PartFits (operands_tested c m u i r)
 unfolding operands_tested
 operands_tested_fit {c} h m u i r n k f =
     let ws : List ℕ = words_at m r.tables r.places in
     counted_fits r.made
-    (decided PartFits (passes r.fault)
-    (λ e. finished_fits h m r.tables r.places (complete u c.file i ws) k
+    (after_test_fits PartFits r.fault f
+    (finished_fits h m r.tables r.places (complete u c.file i ws) k
     (completes u i ws h.file n (read_words k r.places)))
-    (λ e. failed_fits (next_core_fits h) r.fault m r.tables e f k))
+    (λ x g. failed_fits (next_core_fits h) x m r.tables g k))
 
 -- its accesses asked for
 operands_fit : {c : Core} → CoreFits c → (m t : List ℕ) (u : User) (i : ℕ)
@@ -113,13 +120,13 @@ operands_fit {c} h m t u i n k =
 
 -- the access for its indirect word tested
 indirect_tested_fit : {c : Core} → CoreFits c → (m : List ℕ) (u : User) (r : Tested)
-    → LentFits m r.tables → FaultFits r.fault → PartFits (indirect_tested c m u r)
+    → LentFits m r.tables → FirstFits r.fault → PartFits (indirect_tested c m u r)
 unfolding indirect_tested
 indirect_tested_fit h m u r k f =
     counted_fits r.made
-    (decided PartFits (passes r.fault)
-    (λ e. operands_fit h m r.tables u (get_or (words_at m r.tables r.places) 0 0) (read_words k r.places 0) k)
-    (λ e. failed_fits (next_core_fits h) r.fault m r.tables e f k))
+    (after_test_fits PartFits r.fault f
+    (operands_fit h m r.tables u (get_or (words_at m r.tables r.places) 0 0) (read_words k r.places 0) k)
+    (λ x g. failed_fits (next_core_fits h) x m r.tables g k))
 
 -- the whole of it
 user_fits : {c : Core} → CoreFits c → (m t : List ℕ) (u : User) → LentFits m t → PartFits (user_stage c m t u)
@@ -139,7 +146,7 @@ examined_fits {c} h m t k =
     counted_fits 1
     (either PartFits (ltb a (length m))
     (record { core = file_fits h (with_word h.file T refl (k.memory a)); far = tt; lent = k })
-    (failed_fits h OutOfRange m t refl tt k))
+    (failed_fits h OutOfRange m t tt k))
 
 -- DEPO
 deposited_fits : {c : Core} → CoreFits c → (m t : List ℕ) → LentFits m t → PartFits (deposited c m t)
@@ -150,7 +157,7 @@ deposited_fits {c} h m t k =
     counted_fits 1
     (either PartFits (ltb a (length m))
     (record { core = h; far = tt; lent = record { memory = w; tables = k.tables } })
-    (failed_fits h OutOfRange m t refl tt k))
+    (failed_fits h OutOfRange m t tt k))
 
 -- LDATX to STDTX: the registers afterwards, with the words w and v loaded ..
 transferred_fits : {f : File} → FileFits f → (o : Transfer) {w v : ℕ} → w < 65536 → v < 65536
@@ -186,30 +193,26 @@ unfolding transfer_stage
 transfer_fits {c} h m t o d k =
     let form : Bool = eqb c.control.extended 1 in
     let p : ℕ = transfer_address c.file d in
-    let x : Translation = first_place form (length m) o p in
-    let y : Translation = second_place form (length m) o p in
-    let first : FaultFits x = physical_fits form (length m) (transfer_kind o) p in
-    let second : FaultFits y =
-    either FaultFits (two_words o) (physical_fits form (length m) (transfer_kind o) (p + 1)) tt in
-    counted_fits (transfer_made o x)
-    (decided PartFits (passes (first_fault x y))
-    (λ e. record {
-      core = file_fits h (transferred_fits h.file o (word_at_word k x) (word_at_word k y));
+    let r : Tested = test_physical t form (length m) (transfer_kind o) (word_addresses o p) in
+    let w : Words (words_at m t r.places) = read_words k r.places in
+    counted_fits r.made
+    (after_test_fits PartFits r.fault (physical_fault t form (length m) (transfer_kind o) (word_addresses o p))
+    (record {
+      core = file_fits h (transferred_fits h.file o (w 0) (w 1));
       far = tt;
-      lent = stored_fits (x ∷ y ∷ []) m t (words_of (transfer_stores o c.file)) k (transfer_words h.file o);
+      lent = stored_fits r.places m t (words_of (transfer_stores o c.file)) k (transfer_words h.file o);
     })
-    (λ e. failed_fits h (first_fault x y) m t e (either FaultFits (passes x) second first) k))
+    (λ x g. failed_fits h x m t g k))
 
 -- IOX and IOXT
-device_fits : {c : Core} → CoreFits c → (m t : List ℕ) (r : DeviceRegister) → LentFits m t
+device_fits : {c : Core} → CoreFits c → (m t : List ℕ) (r : Option DeviceRegister) → LentFits m t
     → PartFits (device_stage c m t r)
 unfolding device_stage
-device_fits h m t r k =
-    either PartFits (answers r) (record { core = exchanged_fits h r; far = tt; lent = k })
-    (trapped_fits 7 (omega arith) (omega arith) h m t k)
+device_fits h m t (Some r) k = record { core = exchanged_fits h r; far = tt; lent = k }
+device_fits h m t None k = trapped_fits 7 (omega arith) (omega arith) h m t k
 
 -- IDENT
-ident_fits : {c : Core} → CoreFits c → (m t : List ℕ) (i : Line) → LentFits m t → PartFits (ident_stage c m t i)
+ident_fits : {c : Core} → CoreFits c → (m t : List ℕ) (i : Option Line) → LentFits m t → PartFits (ident_stage c m t i)
 unfolding ident_stage
 ident_fits {c} h m t i k =
     either PartFits (eqb (flip_flop c.control.devices i) 1)
@@ -217,19 +220,20 @@ ident_fits {c} h m t i k =
     (trapped_fits 7 (omega arith) (omega arith) h m t k)
 
 -- what is done outside the level
-left_fits : {c : Core} → CoreFits c → (x : Far) (m t : List ℕ) → FarFits x → LentFits m t → PartFits (part c 0 x m t)
+left_fits : {c : Core} → CoreFits c → (x : Option Far) (m t : List ℕ) → FarFits x → LentFits m t
+    → PartFits (part c 0 x m t)
 left_fits h x m t f k = record { core = h; far = f; lent = k }
 
 -- each of them
 system_fits : (l : ℕ) {c : Core} → l < level_count → CoreFits c → (m t : List ℕ) (o : System) → LentFits m t
     → PartFits (system_stage l c m t o)
 system_fits l a h m t (ControlOf o) k = record { core = controlled_fits l a h o; far = tt; lent = k }
-system_fits l a h m t TraPgc k = left_fits h ReadPcr m t tt k
-system_fits l a h m t TrrPcr k = left_fits h WritePcr m t tt k
-system_fits l a h m t (Irr n r) k = left_fits h (ReadRegister n r) m t tt k
-system_fits l a h m t (Irw n r) k = left_fits h (WriteRegister n r) m t tt k
-system_fits l a h m t (Srb n) k = left_fits h (StoreBlock n) m t tt k
-system_fits l a h m t (Lrb n) k = left_fits h (LoadBlock n) m t tt k
+system_fits l a h m t TraPgc k = left_fits h (Some ReadPcr) m t tt k
+system_fits l a h m t TrrPcr k = left_fits h (Some WritePcr) m t tt k
+system_fits l a h m t (Irr n r) k = left_fits h (Some (ReadRegister n r)) m t tt k
+system_fits l a h m t (Irw n r) k = left_fits h (Some (WriteRegister n r)) m t tt k
+system_fits l a h m t (Srb n) k = left_fits h (Some (StoreBlock n)) m t tt k
+system_fits l a h m t (Lrb n) k = left_fits h (Some (LoadBlock n)) m t tt k
 system_fits l a h m t Exam k = examined_fits h m t k
 system_fits l a h m t Depo k = deposited_fits h m t k
 system_fits l a h m t (Physical o d) k = transfer_fits h m t o d k
@@ -253,25 +257,19 @@ instruction_fits l a h m t (Monitor n) k =
 instruction_fits l a h m t Illegal k = trapped_fits 4 (omega arith) (omega arith) (next_core_fits h) m t k
 
 -- a fetch may lower the ring
-after_fetch_fits : {c : Core} → CoreFits c → (ring : ℕ) (x : Translation) → CoreFits (after_fetch c ring x)
-after_fetch_fits h ring NoAccess = h
+after_fetch_fits : {c : Core} → CoreFits c → (ring : ℕ) (x : Place) → CoreFits (after_fetch c ring x)
 after_fetch_fits {c} h ring (Load p) = either CoreFits (eqb c.control.paging 1) (lowered_fits c ring h) h
 after_fetch_fits h ring (Store p) = h
 after_fetch_fits h ring (LoadTable i) = h
 after_fetch_fits h ring (StoreTable i) = h
-after_fetch_fits h ring (Protection g) = h
-after_fetch_fits h ring (PageFault g) = h
-after_fetch_fits h ring OutOfRange = h
 
 -- the word fetched, or the fetch failed
-fetched_fits : (l : ℕ) {c : Core} → l < level_count → CoreFits c → (m t : List ℕ) (ring : ℕ) (x : Translation)
-    → FaultFits x → LentFits m t → PartFits (fetched l c m t ring x)
+fetched_fits : (l : ℕ) {c : Core} → l < level_count → CoreFits c → (m t : List ℕ) (ring : ℕ)
+    (x : Result Place Fault) → OutcomeFits x → LentFits m t → PartFits (fetched l c m t ring x)
 unfolding fetched
-fetched_fits l {c} a h m t ring x f k =
-    let w : ℕ = word_at m t x in
-    counted_fits 1
-    (decided PartFits (passes x) (λ e. instruction_fits l a (after_fetch_fits h ring x) m t (instruction_of c w) k)
-    (λ e. failed_fits h x m t e f k))
+fetched_fits l {c} a h m t ring (Ok p) g k =
+    counted_fits 1 (instruction_fits l a (after_fetch_fits h ring p) m t (instruction_of c (word_at m t p)) k)
+fetched_fits l a h m t ring (Err f) g k = counted_fits 1 (failed_fits h f m t g k)
 
 -- the running level
 pub step_in_fits : (l : ℕ) {c : Core} → l < level_count → CoreFits c → (m t : List ℕ) → LentFits m t

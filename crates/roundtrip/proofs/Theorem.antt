@@ -17,8 +17,6 @@ use Rattle.isa.specs.Images.{contents_fit, contents, bodies, entries_answer, mee
 use Rattle.isa.specs.Images.{loaded_words, contents_words, image_of, image_size}
 use Rattle.isa.specs.Answers.{LoadCall, load_call, load_call_by, load_answer, state_answer, write_answer, written_output}
 use Rattle.isa.specs.declared.machine.State.{State}
-use Rattle.isa.specs.declared.answer.Answer.{Answer}
-use Rattle.isa.specs.declared.answer.Answer.TheVariants.{Done, Refused}
 use Rattle.isa.proofs.Tests.{and_both, and_right}
 use Rattle.isa.proofs.ControlWords.{state_of_words}
 use Rattle.roundtrip.specs.Statement.{Machine, Loads, RoundTrip, LoadOrder, Either, machine, refusal, Without}
@@ -26,6 +24,8 @@ use Rattle.roundtrip.specs.Statement.{LoadsClearedDevices}
 use Rattle.roundtrip.proofs.Contents.{body_words, five, after_memory, entry_count_law, contents_five, bodies_all}
 use Rattle.roundtrip.proofs.Contents.{bodies_length, loaded_memory, loaded_registers, loaded_control}
 use Rattle.roundtrip.proofs.Contents.{loaded_tables, loaded_devices}
+use Rattle.std.specs.declared.result.Result.TheVariants.{Ok, Err}
+use Rattle.isa.specs.Answers.{Answer}
 
 -- ---- the order of load's refusals
 
@@ -45,8 +45,8 @@ unfolding load_call
 load_either s i m t = go (load_answer i m t)
   where
     go : (x : Answer) → Either s i m t (load_call_by x s i m t)
-    go Done = machine refl
-    go (Refused x) = refusal x refl
+    go (Ok _) = machine refl
+    go (Err x) = refusal x refl
 
 -- ---- an image without devices
 
@@ -65,7 +65,7 @@ loads_cleared_devices i h =
 -- ---- the five entries
 
 -- five full entries of different kinds are refused by none of the tests
-five_pass : (words : ℕ) → entries_answer words [] (five words) ≡ Done
+five_pass : (words : ℕ) → entries_answer words [] (five words) ≡ Ok tt
 unfolding meets
 five_pass words = rw (le-ltb words (0 + words) q)
   where
@@ -118,7 +118,7 @@ module _ (s : State) (m t : List ℕ) (h : Machine s m t) where
     unfolding sizes_fit
     sizes_same = rw (hm, ht) h.sizes
 
-    image_accepted : load_answer (image_of s m t) m₀ t₀ ≡ Done
+    image_accepted : load_answer (image_of s m t) m₀ t₀ ≡ Ok tt
     image_accepted =
         (load_order (image_of s m t) m₀ t₀).loaded sizes_same image_fits
         (ap (λ (n : ℕ). entries_answer n [] (contents (image_of s m t))) hm
@@ -132,12 +132,12 @@ module _ (s : State) (m t : List ℕ) (h : Machine s m t) where
     where
       whole : (m₀ : List ℕ) → length m₀ ≡ length m
           → ◌≡◌ {A = LoadCall} (record {
-            answer = Done;
+            answer = Ok tt;
             state = loaded_state (image_of s m t);
             memory = loaded_words 1 (length m₀) (image_of s m t);
             tables = loaded_words 4 table_words (image_of s m t);
           })
-          (record { answer = Done; state = s; memory = m; tables = t })
+          (record { answer = Ok tt; state = s; memory = m; tables = t })
       whole m₀ hm =
           rw (
             loaded_state_law,
@@ -147,7 +147,7 @@ module _ (s : State) (m t : List ℕ) (h : Machine s m t) where
           )
 
   -- what write leaves in an output that is long enough
-  write_done : (out : List ℕ) → image_size m ≤ length out → write_answer s m t out ≡ Done
+  write_done : (out : List ℕ) → image_size m ≤ length out → write_answer s m t out ≡ Ok tt
   unfolding write_answer state_answer
   write_done out l = rw (h.sizes, h.range, le-ltb (length out) (image_size m) l)
 

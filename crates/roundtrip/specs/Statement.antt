@@ -9,7 +9,7 @@ use Rattle.isa.specs.Answers.{LoadCall, load_call, load_answer, written_output}
 use Rattle.isa.specs.declared.machine.State.{State}
 use Rattle.isa.specs.declared.answer.Refusal.{Refusal}
 use Rattle.isa.specs.declared.answer.Refusal.TheVariants.{Sizes, State as StateRange, Contents, Bodies}
-use Rattle.isa.specs.declared.answer.Answer.TheVariants.{Done, Refused}
+use Rattle.std.specs.declared.result.Result.TheVariants.{Ok, Err}
 
 -- a machine that step and run do not refuse: lent words of the sizes above, and a state in range
 pub record Machine (s : State) (m t : List ℕ) : Type 0 where
@@ -20,7 +20,7 @@ pub record Machine (s : State) (m t : List ℕ) : Type 0 where
 -- the machine after loading the image i into as much memory: s₀, m₀ and t₀ are what was there before
 pub record Loads (s : State) (m t i : List ℕ) : Type 0 where
   pub loads : (s₀ : State) (m₀ t₀ : List ℕ) → length m₀ ≡ length m → length t₀ ≡ length t
-      → load_call s₀ i m₀ t₀ ≡ record { answer = Done; state = s; memory = m; tables = t }
+      → load_call s₀ i m₀ t₀ ≡ record { answer = Ok tt; state = s; memory = m; tables = t }
 
 -- the image, and the first words of any output that was long enough for it
 pub record RoundTrip (s : State) (m t : List ℕ) : Type 0 where
@@ -30,29 +30,29 @@ pub record RoundTrip (s : State) (m t : List ℕ) : Type 0 where
 -- "Load: 4, contents short or over 32 entries; for each entry 5 .. 6 .. 7 .. 8, bodies other than exactly the rest; 2":
 -- each refusal where those before it do not hold, 1 before all
 pub record LoadOrder (i m t : List ℕ) : Type 0 where
-  pub sizes : sizes_fit m t ≡ false → load_answer i m t ≡ Refused Sizes
-  pub contents_short : sizes_fit m t ≡ true → contents_fit i ≡ false → load_answer i m t ≡ Refused Contents
+  pub sizes : sizes_fit m t ≡ false → load_answer i m t ≡ Err Sizes
+  pub contents_short : sizes_fit m t ≡ true → contents_fit i ≡ false → load_answer i m t ≡ Err Contents
   pub entry : (r : Refusal) → sizes_fit m t ≡ true → contents_fit i ≡ true
-      → entries_answer (length m) [] (contents i) ≡ Refused r
-      → load_answer i m t ≡ Refused r
-  pub bodies_differ : sizes_fit m t ≡ true → contents_fit i ≡ true → entries_answer (length m) [] (contents i) ≡ Done
-      → eqb (named_words (contents i)) (length (bodies i)) ≡ false → load_answer i m t ≡ Refused Bodies
-  pub state : sizes_fit m t ≡ true → contents_fit i ≡ true → entries_answer (length m) [] (contents i) ≡ Done
+      → entries_answer (length m) [] (contents i) ≡ Err r
+      → load_answer i m t ≡ Err r
+  pub bodies_differ : sizes_fit m t ≡ true → contents_fit i ≡ true → entries_answer (length m) [] (contents i) ≡ Ok tt
+      → eqb (named_words (contents i)) (length (bodies i)) ≡ false → load_answer i m t ≡ Err Bodies
+  pub state : sizes_fit m t ≡ true → contents_fit i ≡ true → entries_answer (length m) [] (contents i) ≡ Ok tt
       → eqb (named_words (contents i)) (length (bodies i)) ≡ true → in_range (loaded_state i) ≡ false
-      → load_answer i m t ≡ Refused StateRange
-  pub loaded : sizes_fit m t ≡ true → contents_fit i ≡ true → entries_answer (length m) [] (contents i) ≡ Done
+      → load_answer i m t ≡ Err StateRange
+  pub loaded : sizes_fit m t ≡ true → contents_fit i ≡ true → entries_answer (length m) [] (contents i) ≡ Ok tt
       → eqb (named_words (contents i)) (length (bodies i)) ≡ true → in_range (loaded_state i) ≡ true
-      → load_answer i m t ≡ Done
+      → load_answer i m t ≡ Ok tt
 
 -- load answers exactly one of a machine or a refusal that leaves everything as it came
 pub data Either (s : State) (i m t : List ℕ) (r : LoadCall) : Type 0 where
   machine : r ≡ record {
-    answer = Done;
+    answer = Ok tt;
     state = loaded_state i;
     memory = loaded_words 1 (length m) i;
     tables = loaded_words 4 table_words i;
   } → Either s i m t r
-  refusal : (x : Refusal) → r ≡ record { answer = Refused x; state = s; memory = m; tables = t } → Either s i m t r
+  refusal : (x : Refusal) → r ≡ record { answer = Err x; state = s; memory = m; tables = t } → Either s i m t r
 
 -- none of the entries has the kind k
 abbrev pub Without : ℕ → List ImageEntry → Type 0

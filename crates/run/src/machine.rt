@@ -1,7 +1,6 @@
 // The loop, over the running level's words and those of all levels.
-ghost use Rattle.isa.specs.Machine.{level_count, register_words, table_words};
-ghost use Rattle.std.specs.Prelude.{◌≡◌, ◌<◌, false, not, ◌&&◌, length, ◌==◌};
-ghost use Rattle.word_class.specs.Classes.{Sorts};
+ghost use Rattle.isa.specs.Machine.{level_count};
+ghost use Rattle.std.specs.Prelude.{◌≡◌, ◌<◌, false, not, ◌&&◌, ◌==◌};
 ghost use Rattle.isa.specs.Machine.{pack};
 ghost use Rattle.isa.specs.Run.{run_from};
 ghost use Rattle.isa.specs.Step.{step};
@@ -9,7 +8,7 @@ ghost use Rattle.levels.specs.Changes.{due_at};
 ghost use Rattle.run.specs.Runs.{loop_run, turn_with, reason_at_rest};
 
 use isa::answer::Reason;
-use isa::machine::{Control, Core};
+use isa::machine::{Control, Core, PageTables, Pcrs, RegisterWords};
 use levels::change::change_due;
 use run_slice::advance;
 
@@ -36,12 +35,12 @@ fn ended(level: u16, core: Core, steps: u64, gave: u16, references: u64, reason:
     } }
 {
     LoopEnd {
-        level: level,
-        core: core,
-        steps: steps,
-        gave: gave,
-        references: references,
-        reason: reason,
+        level,
+        core,
+        steps,
+        gave,
+        references,
+        reason,
     }
 }
 
@@ -49,52 +48,41 @@ fn ended(level: u16, core: Core, steps: u64, gave: u16, references: u64, reason:
 fn level_ends(first: bool, level: u16, k: Control) -> bool
     ensures { result ≡ (first && due_at level k) }
 {
-    if first {
-        return change_due(level, k);
-    }
-    false
+    first && change_due(level, k)
 }
 
 fn interrupt_ends(first: bool, gave: u16) -> bool
     ensures { result ≡ (first && not (gave == 0)) }
 {
-    if first {
-        return gave != 0;
-    }
-    false
+    first && gave != 0
 }
 
 // Why a run of no more steps ends.
 fn at_rest(first: bool, level: u16, c: Core) -> Reason
     ensures { result ≡ reason_at_rest first level c.control }
 {
-    let k = c.control;
-    if k.stopped == 1 {
-        return Reason::Stopped;
+    if c.control.stopped == 1 {
+        Reason::Stopped
+    } else if level_ends(first, level, c.control) {
+        Reason::Level
+    } else {
+        Reason::Spent
     }
-    if level_ends(first, level, k) {
-        return Reason::Level;
-    }
-    Reason::Spent
 }
 
 // Before each step: stopped, then (to the first interrupt only) a level due, then spent; after it an interrupt. A run
 // of one step serves the step, too.
 pub fn run_in(
-    classes: &[u8],
     start: u16,
     c: Core,
-    regs: &mut [u16],
-    pcrs: &mut [u16],
+    regs: &mut RegisterWords,
+    pcrs: &mut Pcrs,
     mem: &mut [u16],
-    tables: &mut [u16],
+    tables: &mut PageTables,
     n: u64,
     first: bool,
 ) -> LoopEnd
-    requires sorts { Sorts classes.now }
     requires start_lt_level_count { start < level_count }
-    requires regs_len { (length regs.old ≡ register_words) × (length pcrs.old ≡ level_count) }
-    requires tables_len { length tables.old ≡ table_words }
     ensures level_lt_level_count { result.level < level_count }
     ensures tables_after { loop_run result regs.new pcrs.new mem.new tables.new
         ≡ run_from first n 0 (pack start c regs.old pcrs.old) mem.old
@@ -109,30 +97,24 @@ pub fn run_in(
     let mut steps: u64 = 0;
     let mut gave: u16 = 0;
     let mut references: u64 = 0;
+    // No index: a turn takes as many steps as its burst has.
     while steps < n {
-        let k = core.control;
-        if k.stopped == 1 {
+        if core.control.stopped == 1 {
             return ended(level, core, steps, gave, references, Reason::Stopped);
         }
-        if level_ends(first, level, k) {
+        if level_ends(first, level, core.control) {
             return ended(level, core, steps, gave, references, Reason::Level);
         }
-        let out = advance(classes, level, core, regs, pcrs, mem, tables, n - steps);
+        let out = advance(level, core, regs, pcrs, mem, tables, n - steps);
         level = out.level;
         core = out.core;
         gave = out.gave;
-        references = std::num::wrapping_add_u64(references, out.references);
+        references = references.wrapping_add(out.references);
         steps = steps + out.before + 1;
         if interrupt_ends(first, gave) {
             return ended(level, core, steps, gave, references, Reason::Interrupt);
         }
     }
-    ended(
-        level,
-        core,
-        steps,
-        gave,
-        references,
-        at_rest(first, level, core),
-    )
+    let reason = at_rest(first, level, core);
+    ended(level, core, steps, gave, references, reason)
 }

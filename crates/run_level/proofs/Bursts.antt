@@ -1,6 +1,8 @@
 -- Quiet steps of the running level: a run goes on behind them as if each had been taken by itself.
 -- Assumes nothing.
 use Rattle.std.proofs.Common.{◌≡◌, ℕ, suc, ◌+◌, ◌-◌, ◌%◌, ◌<◌, ◌≤◌, Bool, List, sym, ap, ◌∙◌, subst, mod-eq_of_lt, zero-add, arith}
+use Rattle.std.specs.declared.option.Option.{Option}
+use Rattle.std.specs.declared.option.Option.TheVariants.{None}
 use Rattle.isa.specs.Machine.{pack}
 use Rattle.isa.specs.Pages.{lowered_pcr}
 use Rattle.isa.specs.Step.{Part, counted, step_in}
@@ -11,7 +13,6 @@ use Rattle.isa.specs.declared.machine.Core.{Core}
 use Rattle.isa.specs.declared.machine.File.{File}
 use Rattle.event.specs.Events.{event_part}
 use Rattle.event.specs.declared.Event.{Event}
-use Rattle.event.specs.declared.Event.TheVariants.{Fine}
 use Rattle.paging.specs.Levels.{level_rights, on_ring}
 use Rattle.paging.proofs.Levels.{ring_rights, ring_twice}
 use Rattle.exec_memory.specs.Stages.{level_core}
@@ -28,12 +29,12 @@ pub record Level : Type 0 where
   pub tables : List ℕ
 
 -- what an event at b leaves, with r references
-abbrev event_at : ℕ → Control → Level → ℕ → Event → Part
+abbrev event_at : ℕ → Control → Level → ℕ → Option Event → Part
 event_at l k b r e = counted r (event_part l (level_core b.file b.pcr k) b.memory b.tables e)
 
 -- one step of the level from a, by the switches g for paging and x for extended mode, ends at b with r references and
 -- the event e
-abbrev pub Steps : ℕ → ℕ → Level → Level → ℕ → Event → Type 0
+abbrev pub Steps : ℕ → ℕ → Level → Level → ℕ → Option Event → Type 0
 Steps g x a b r e =
     (l : ℕ) (k : Control) → k.paging ≡ g → k.extended ≡ x
     → step_in l (level_core a.file a.pcr k) a.memory a.tables ≡ event_at l k b r e
@@ -49,7 +50,7 @@ Reaches g x n a before b r =
     b.tables)
 
 -- .. behind one more, which left something to be done
-abbrev pub Ends : ℕ → ℕ → ℕ → Level → ℕ → Level → ℕ → Event → Type 0
+abbrev pub Ends : ℕ → ℕ → ℕ → Level → ℕ → Level → ℕ → Option Event → Type 0
 Ends g x n a before b r e =
     (first : Bool) (l j : ℕ) (k : Control) (regs pcrs : List ℕ) → k.paging ≡ g → k.extended ≡ x → Executes l k
     → Levels l regs pcrs
@@ -61,11 +62,11 @@ pub record Quiet (g x n : ℕ) (a : Level) (before : ℕ) (b : Level) (r : ℕ) 
   pub most : before ≤ n
   pub reaches : Reaches g x n a before b r
   pub none : before ≡ 0 → (b ≡ a) × (r ≡ 0)
-  pub one : before ≡ 1 → Steps g x a b r Fine
+  pub one : before ≡ 1 → Steps g x a b r None
 
 -- all n of them
 module _ {g x n : ℕ} {a b : Level} {r : ℕ} (q : Quiet g x n a n b r) (h : 0 < n) where
-  pub all_quiet : Ends g x n a (n - 1) b r Fine
+  pub all_quiet : Ends g x n a (n - 1) b r None
   all_quiet first l j k regs pcrs p o y w =
       let c : Core = level_core b.file b.pcr k in
       let e : n ≡ suc (n - 1) = omega (arith, h) in
@@ -77,7 +78,7 @@ module _ {g x n : ℕ} {a b : Level} {r : ℕ} (q : Quiet g x n a n b r) (h : 0 
 module _ {g x n : ℕ} {a b : Level} {before r : ℕ} (q : Quiet g x n a before b r) (h : before < n)
     {i sum : ℕ} (low : i < sum_range) (added : sum ≡ (r + i) % sum_range) where
   -- one step more, of i references
-  pub then_ends : (d : Level) (e : Event) → Steps g x b d i e → Ends g x n a before d sum e
+  pub then_ends : (d : Level) (e : Option Event) → Steps g x b d i e → Ends g x n a before d sum e
   then_ends d e s first l j k regs pcrs p o y w =
       let c : Core = level_core b.file b.pcr k in
       let left : Part = event_part l (level_core d.file d.pcr k) d.memory d.tables e in
@@ -90,7 +91,7 @@ module _ {g x n : ℕ} {a b : Level} {before r : ℕ} (q : Quiet g x n a before 
       ∙ counted_before first n j before l regs pcrs r i left
       ∙ ap (λ (z : ℕ). goes_on first n j before (leaves l regs pcrs (counted z left))) (sym added)
 
-  pub first_step : (d : Level) (e : Event) → Steps g x b d i e → before ≡ 0 → Steps g x a d sum e
+  pub first_step : (d : Level) (e : Option Event) → Steps g x b d i e → before ≡ 0 → Steps g x a d sum e
   first_step d e s z =
       let whole : i ≡ sum =
       sym (mod-eq_of_lt low)
@@ -98,16 +99,16 @@ module _ {g x n : ℕ} {a b : Level} {before r : ℕ} (q : Quiet g x n a before 
       ∙ sym added in
       subst (λ (y : ℕ). Steps g x a d y e) whole (subst (λ (y : Level). Steps g x y d i e) (q.none z).0 s)
 
-  pub then_quiet : (d : Level) → Steps g x b d i Fine → Quiet g x n a (suc before) d sum
+  pub then_quiet : (d : Level) → Steps g x b d i None → Quiet g x n a (suc before) d sum
   then_quiet d s = record {
     most = h;
     reaches = λ first l j k regs pcrs p o y v.
         let c : Core = level_core d.file d.pcr k in
-        then_ends d Fine s first l j k regs pcrs p o y v
+        then_ends d None s first l j k regs pcrs p o y v
         ∙ ap (goes_on first n j before) (fine_leaves l c regs pcrs d.memory d.tables sum)
         ∙ goes_on_law first n j before sum (pack l c regs pcrs) d.memory d.tables;
     none = λ z. absurd (omega (arith, z));
-    one = λ z. first_step d Fine s (omega (arith, z));
+    one = λ z. first_step d None s (omega (arith, z));
   }
 
 -- the level that began with the PCR p, on the ring that it has now

@@ -1,6 +1,8 @@
 -- A step of the packed machine, and a run that goes on behind a step.
 -- Assumes nothing.
 use Rattle.std.proofs.Common.{◌≡◌, ℕ, suc, ◌+◌, ◌-◌, ◌%◌, ◌<◌, Bool, true, false, cond, not, ◌&&◌, eqb, List, sym, refl, ap, ◌∙◌, add-zero, arith}
+use Rattle.std.specs.declared.option.Option.{Option}
+use Rattle.std.specs.declared.option.Option.TheVariants.{None, Some}
 use native.Mathlib.Nat.{mod-add-mod}
 use Rattle.isa.specs.Machine.{pack, core_of, control_of}
 use Rattle.isa.specs.Step.{Part, Turn, turn, counted, counted_turn, far_stage, settled, step, step_in, is_stopped}
@@ -14,7 +16,6 @@ use Rattle.isa.specs.declared.machine.State.{State}
 use Rattle.isa.proofs.Tests.{no_both}
 use Rattle.event.specs.Events.{event_part, is_fine}
 use Rattle.event.specs.declared.Event.{Event}
-use Rattle.event.specs.declared.Event.TheVariants.{Fine, Failed, Error, Privileged, NotPrivileged, Monitor, Illegal}
 use Rattle.levels.specs.Changes.{due_at}
 use Rattle.levels.proofs.Changes.{due_pack}
 use Rattle.run_level.specs.Bursts.{Levels, Executes, leaves, goes_on}
@@ -89,17 +90,12 @@ counted_before first n j before l regs pcrs g k p =
     ∙ ap (λ (x : ℕ). counted_run x on) (low_sums g k a b)
     ∙ counted_run_low ((g + k) % sum_range + a + b) on
 
-pub fine_event : (e : Event) → is_fine e ≡ true → e ≡ Fine
-fine_event Fine h = refl
-fine_event (Failed x) h = absurd (no_both h)
-fine_event Error h = absurd (no_both h)
-fine_event (Privileged q) h = absurd (no_both h)
-fine_event NotPrivileged h = absurd (no_both h)
-fine_event (Monitor n) h = absurd (no_both h)
-fine_event Illegal h = absurd (no_both h)
+pub fine_event : (e : Option Event) → is_fine e ≡ true → e ≡ None
+fine_event None h = refl
+fine_event (Some e) h = absurd (no_both h)
 
 -- an event that is fine leaves nothing to be done
 pub fine_leaves : (l : ℕ) (c : Core) (regs pcrs m t : List ℕ) (k : ℕ)
-    → leaves l regs pcrs (counted k (event_part l c m t Fine)) ≡ counted_turn k (turn (pack l c regs pcrs) 0 m t)
+    → leaves l regs pcrs (counted k (event_part l c m t None)) ≡ counted_turn k (turn (pack l c regs pcrs) 0 m t)
 unfolding event_part far_stage
 fine_leaves l c regs pcrs m t k = ap (λ (x : ℕ). counted_turn x (turn (pack l c regs pcrs) 0 m t)) (add-zero k)

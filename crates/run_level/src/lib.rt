@@ -2,16 +2,14 @@
 // that what is tested before a step need not be tested again.
 #![tactic(auto)]
 
-ghost use Rattle.isa.specs.Machine.{table_words};
-ghost use Rattle.std.specs.Prelude.{◌≡◌, ◌<◌, length};
-ghost use Rattle.word_class.specs.Classes.{Sorts};
+ghost use Rattle.std.specs.Prelude.{◌≡◌, ◌<◌};
 ghost use Rattle.isa.specs.Pages.{lowered_pcr};
 ghost use Rattle.run_level.specs.Bursts.{QuietSteps, QuietStep};
 
 use event::Event;
 use exec_step::fetch::no_page;
 use exec_step::step_in;
-use isa::machine::File;
+use isa::machine::{File, PageTables};
 use paging::rights::{level_rights, on_ring};
 
 // The file and the PCR after the last step, the steps before it, how it ended, and the references of all of them, their
@@ -21,12 +19,19 @@ pub struct Burst {
     pub file: File,
     pub pcr: u16,
     pub before: u64,
-    pub event: Event,
+    pub event: Option<Event>,
     pub references: u64,
 }
 
 // p is the PCR that the level began with, ring the ring that it has now.
-fn burst_of(file: File, p: u16, ring: u32, before: u64, event: Event, references: u64) -> Burst
+fn burst_of(
+    file: File,
+    p: u16,
+    ring: u32,
+    before: u64,
+    event: Option<Event>,
+    references: u64,
+) -> Burst
     requires { ring < 4 }
     ensures { result ≡ record {
       file = file;
@@ -37,28 +42,26 @@ fn burst_of(file: File, p: u16, ring: u32, before: u64, event: Event, references
     } }
 {
     Burst {
-        file: file,
+        file,
         pcr: p / 4 * 4 + ring as u16,
-        before: before,
-        event: event,
-        references: references,
+        before,
+        event,
+        references,
     }
 }
 
 // At most n steps, up to the first that ends the burst. The PCR's tables and the switches for paging and extended mode
 // stay; the ring is carried.
+#[inline(always)]
 pub fn quiet_steps(
-    classes: &[u8],
     f: File,
     p: u16,
     paging: u16,
     extended: u16,
     mem: &mut [u16],
-    tables: &mut [u16],
+    tables: &mut PageTables,
     n: u64,
 ) -> Burst
-    requires sorts { Sorts classes.now }
-    requires tables_len { length tables.old ≡ table_words }
     requires n_nonzero { 0 < n }
     ensures before_lt_n { result.before < n }
     ensures quiet_steps { QuietSteps f p paging extended mem.old tables.old n result mem.new
@@ -72,17 +75,17 @@ pub fn quiet_steps(
     let mut left = n;
     let mut page = no_page();
     let mut references: u64 = 0;
+    // Steps are counted here, and no index.
     while 0 < left {
-        let s = step_in(classes, file, on_ring(base, ring), page, mem, tables);
-        let event = s.event;
+        let s = step_in(file, on_ring(base, ring), page, mem, tables);
         file = s.file;
         ring = s.ring;
         page = s.page;
-        references = std::num::wrapping_add_u64(references, s.references);
-        if event::ends(event) {
-            return burst_of(file, p, ring, n - left, event, references);
+        references = references.wrapping_add(s.references);
+        if event::ends(s.event) {
+            return burst_of(file, p, ring, n - left, s.event, references);
         }
         left -= 1;
     }
-    burst_of(file, p, ring, n - 1, Event::Fine, references)
+    burst_of(file, p, ring, n - 1, None, references)
 }

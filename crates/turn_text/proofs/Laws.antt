@@ -6,7 +6,9 @@ use Rattle.std.proofs.Math.Seq.{take-suc, take-suc-set}
 use Rattle.turn_text.specs.Bytes.{bytes_as_words}
 use Rattle.std.specs.Fmt.{decimal as std-decimal}
 use Rattle.std.proofs.lemmas.Fmt.{decimal_from_prepends, length-decimal-le}
-use Rattle.turn_text.specs.Text.{decimal_before, decimal}
+use Rattle.std.specs.Str.{IsAscii, IsUtf8}
+use Rattle.std.proofs.lemmas.Str.{IsUtf8-from_ascii}
+use Rattle.turn_text.specs.Text.{decimal_before, decimal, octal}
 
 -- ---- words
 
@@ -64,3 +66,17 @@ decimal_digits n small =
     digit_more : (k m : ℕ) (after : List ℕ) → 10 ≤ m
         → decimal_before (suc k) m after ≡ decimal_before k (m / 10) ((48 + m % 10) ∷ after)
     digit_more k m after l = simp (le-ltb m 10 l)
+
+-- ---- octal digits
+
+octal_ascii : (w : ℕ) → w < 65536 → IsAscii (octal w)
+octal_ascii w h zero = omega (arith, h)
+octal_ascii w h (suc zero) = omega arith
+octal_ascii w h (suc (suc zero)) = omega arith
+octal_ascii w h (suc (suc (suc zero))) = omega arith
+octal_ascii w h (suc (suc (suc (suc zero)))) = omega arith
+octal_ascii w h (suc (suc (suc (suc (suc zero))))) = omega arith
+octal_ascii w h (suc (suc (suc (suc (suc (suc i)))))) = omega arith
+
+pub octal_utf8 : (w : ℕ) → w < 65536 → IsUtf8 (octal w)
+octal_utf8 w h = IsUtf8-from_ascii (octal w) (octal_ascii w h)

@@ -1,5 +1,5 @@
 -- Document 01, "A whole run": the text that `turn` prints, in ASCII.
-use Rattle.std.specs.Prelude.{ℕ, zero, suc, ◌+◌, ◌/◌, ◌%◌, cond, List, [], ◌∷◌, ◌++◌, ltb}
+use Rattle.std.specs.Prelude.{Ok, Err, ℕ, zero, suc, ◌+◌, ◌/◌, ◌%◌, cond, List, [], ◌∷◌, ◌++◌, ltb}
 use Prim.Native.Char.{code}
 use Prim.Native.String.{String, [] as []ˢ, ◌∷◌ as ◌∷ˢ◌}
 use Rattle.isa.specs.Machine.{reg}
@@ -9,8 +9,7 @@ use Rattle.isa.specs.declared.machine.Register.TheVariants.{Sts, D, P, B, L, A, 
 use Rattle.isa.specs.declared.answer.Reason.{Reason}
 use Rattle.isa.specs.declared.answer.Reason.TheVariants.{Stopped, Level, Spent, Interrupt}
 use Rattle.turn_text.specs.declared.End.{End}
-use Rattle.turn_text.specs.declared.Turned.{Turned}
-use Rattle.turn_text.specs.declared.Turned.TheVariants.{Refused, Ended}
+use Rattle.turn_text.specs.Turn.{Turned}
 
 abbrev pub ascii : String → List ℕ
 ascii []ˢ = []
@@ -65,5 +64,5 @@ end_text e =
 
 -- "or `refused N`"
 abbrev pub text_of : Turned → List ℕ
-text_of (Refused r) = line (ascii "refused") (decimal (refusal_number r))
-text_of (Ended e) = end_text e
+text_of (Err r) = line (ascii "refused") (decimal (refusal_number r))
+text_of (Ok e) = end_text e

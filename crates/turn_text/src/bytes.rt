@@ -8,11 +8,10 @@ pub fn put_words(bytes: &[u8], words: &mut [u16]) -> usize
     ensures upper_bound { result ≤ length words.new }
     ensures words_after { take result words.new ≡ bytes_as_words bytes.now }
 {
-    let n = bytes.len() / 2;
-    let mut i = 0;
-    while i < n {
-        words[i] = bytes[i * 2] as u16 * 256 + bytes[i * 2 + 1] as u16;
-        i += 1;
+    let count = bytes.len() / 2;
+    // By index: tried with `chunks_exact(2)` beside `enumerate` or `iter_mut`, where the proof knows no chunk's place.
+    for i in 0..count {
+        words[i] = u16::from_be_bytes([bytes[i * 2], bytes[i * 2 + 1]]);
     }
-    n
+    count
 }

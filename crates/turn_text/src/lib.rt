@@ -6,10 +6,10 @@ ghost use Rattle.turn_text.specs.Turn.{end_of, ran_from, cleared_state, image_tu
 ghost use Rattle.turn_text.specs.Turn.{level_register};
 
 use crate::bytes::put_words;
-use isa::answer::{Answer, Reason, Refusal, RunAnswer};
-use isa::constant::{FILE_SIZE, LEVEL_COUNT, PAGE_WORDS, REGISTER_WORDS, TABLE_WORDS};
-use isa::device::{Clock, Devices, TerminalInput, TerminalOutput};
-use isa::machine::{Control, File, Register, State};
+use image_load::bodies::state_in;
+use isa::answer::{Reason, Refusal};
+use isa::constant::{FILE_SIZE, PAGE_WORDS, STATE_WORDS, TABLE_WORDS};
+use isa::machine::{File, Register, State};
 
 mod bytes;
 pub mod printing;
@@ -30,22 +30,12 @@ pub struct End {
     pub file: File,
 }
 
-// What an image comes to.
-#[derive(Clone, Copy)]
-pub enum Turned {
-    Refused(Refusal),
-    Ended(End),
-}
-
 // A register of the running level.
 fn register(s: State, r: Register) -> u16
     ensures { result ≡ level_register s r }
 {
     let i = s.level as usize * FILE_SIZE + r.index();
-    if i < REGISTER_WORDS {
-        return s.regs[i];
-    }
-    0
+    s.regs.get(i).copied().unwrap_or(0)
 }
 
 #[tactic(auto, unfolding(isa::specs::Machine::file_at))]
@@ -73,86 +63,42 @@ fn end_of(w: Reason, k: u64, s: State) -> End
 fn cleared() -> State
     ensures { result ≡ cleared_state }
 {
-    State::with(
-        0,
-        Control {
-            interrupts: 0,
-            held: 0,
-            extended: 0,
-            paging: 0,
-            stopped: 0,
-            pid: 0,
-            pie: 0,
-            pvl: 0,
-            iid: 0,
-            iie: 0,
-            pgs: 0,
-            devices: Devices {
-                clock: Clock {
-                    enabled: 0,
-                    ready: 0,
-                    asks: 0,
-                },
-                input: TerminalInput {
-                    enabled: 0,
-                    unread: 0,
-                    asks: 0,
-                    character: 0,
-                    length: 0,
-                },
-                output: TerminalOutput {
-                    enabled: 0,
-                    waits: 0,
-                    asks: 0,
-                    character: 0,
-                },
-            },
-        },
-        [0; REGISTER_WORDS],
-        [0; LEVEL_COUNT],
-    )
+    state_in(&[0; STATE_WORDS])
 }
 
 // At most 1,000 steps from a state.
 #[tactic(auto, unfolding(crate::specs::Turn::ran_from))]
-fn run_state(s: State, mem: &mut [u16], tables: &mut [u16]) -> Turned
+fn run_state(s: State, mem: &mut [u16], tables: &mut [u16]) -> Result<End, Refusal>
     ensures { result ≡ ran_from s mem.old tables.old }
 {
     let ran = operations::runs::through(s, mem, tables, MOST_STEPS);
-    let a = ran.answer;
-    let after = ran.state;
-    match a {
-        RunAnswer::Ran(k, w, _) => Turned::Ended(end_of(w, k, after)),
-        RunAnswer::Refused(r) => Turned::Refused(r),
+    match ran.answer {
+        Ok(r) => Ok(end_of(r.reason, r.steps, ran.state)),
+        Err(refusal) => Err(refusal),
     }
 }
 
 // An image loaded and run.
 #[tactic(auto, unfolding(crate::specs::Turn::image_turned))]
-fn run_image(image: &[u16], mem: &mut [u16], tables: &mut [u16]) -> Turned
+fn run_image(image: &[u16], mem: &mut [u16], tables: &mut [u16]) -> Result<End, Refusal>
     ensures { result ≡ image_turned image.now mem.old tables.old }
 {
     let loaded = operations::load(cleared(), image, mem, tables);
-    let a = loaded.answer;
-    let s = loaded.state;
-    match a {
-        Answer::Done => run_state(s, mem, tables),
-        Answer::Refused(r) => Turned::Refused(r),
+    match loaded.answer {
+        Ok(()) => run_state(loaded.state, mem, tables),
+        Err(refusal) => Err(refusal),
     }
 }
 
 // An image in bytes, loaded into 16 cleared pages and run. More than 65,536 bytes or an odd count is refusal 8 before
 // all else.
 #[tactic(auto, unfolding(crate::specs::Turn::turned))]
-pub fn turn(input: &[u8]) -> Turned
+pub fn turn(input: &[u8]) -> Result<End, Refusal>
     ensures { result ≡ turned input.now }
 {
     let n = input.len();
-    if LARGEST_INPUT < n {
-        return Turned::Refused(Refusal::Bodies);
-    }
-    if n % 2 != 0 {
-        return Turned::Refused(Refusal::Bodies);
+    if n > LARGEST_INPUT || n % 2 != 0 {
+        return Err(Refusal::Bodies);
     }
     let mut words = [0u16; LARGEST_INPUT / 2];
     let mut mem = [0u16; MEMORY_WORDS];

@@ -1,168 +1,113 @@
 // The text that is printed, line by line.
-ghost use Rattle.std.specs.Prelude.{◌≡◌, ◌++◌, ◌+◌, ◌*◌, ◌≤◌, length, take};
+ghost use Rattle.std.specs.Prelude.{◌≡◌, ◌++◌, ◌+◌, ◌≤◌, [], length};
+ghost use Rattle.arrayvec.specs.ArrayString.{array_string_len};
 ghost use Rattle.turn_text.specs.Text.{ascii, decimal, octal, line, reason_name, register_lines, one_letter};
 ghost use Rattle.turn_text.specs.Text.{end_text, text_of};
 
-use crate::{End, Turned};
-use isa::answer::Reason;
-use isa::machine::{File, Register};
-use isa::number::refusal_number;
+use crate::End;
+use arrayvec::ArrayString;
+use isa::answer::{Reason, Refusal};
+use isa::machine::File;
 use itoa::Buffer;
 
-// Bytes after the first `at` of the text; the text's new length.
-fn put(bytes: &[u8], out: &mut [u8], at: usize) -> usize
-    requires { at + length bytes.now ≤ length out.old }
-    ensures value { result ≡ at + length bytes.now }
-    ensures out_after { take result out.new ≡ take at out.old ++ bytes.now }
-{
-    let mut i = 0;
-    while i < bytes.len() {
-        out[at + i] = bytes[i];
-        i += 1;
-    }
-    at + i
-}
+// The bytes that the longest text has.
+pub const LONGEST_TEXT: usize = 144;
+
+pub type Text = ArrayString<LONGEST_TEXT>;
 
 // A name, a space, a value and the line's end.
 #[tactic(auto, unfolding(crate::specs::Text::line))]
-fn put_line(name: &[u8], value: &[u8], out: &mut [u8], at: usize) -> usize
-    requires { at + length name.now + length value.now + 2 ≤ length out.old }
-    ensures value { result ≡ at + length name.now + length value.now + 2 }
-    ensures out_after { take result out.new
-        ≡ take at out.old ++ line name.now value.now }
+fn push_line(text: &mut Text, name: &str, value: &str)
+    requires { array_string_len text.old + length name.now + length value.now + 2 ≤ LONGEST_TEXT }
+    ensures bytes { text.new.bytes ≡ text.old.bytes ++ line name.now value.now }
+    ensures len { array_string_len text.new ≡ array_string_len text.old + length name.now + length value.now + 2 }
 {
-    let a = put(name, out, at);
-    let b = put(&[b' '], out, a);
-    let c = put(value, out, b);
-    put(&[b'\n'], out, c)
+    text.push_str(name);
+    text.push_str(" ");
+    text.push_str(value);
+    text.push_str("\n");
 }
 
 // A number in decimal.
 #[tactic(auto, using(crate::proofs::Laws::decimal_digits))]
-fn put_number(name: &[u8], n: u64, out: &mut [u8], at: usize) -> usize
-    requires { at + length name.now + 22 ≤ length out.old }
-    ensures upper_bound { result ≤ at + length name.now + 22 }
-    ensures out_after { take result out.new ≡ take at out.old ++ line name.now (decimal n) }
+fn push_number(text: &mut Text, name: &str, number: u64)
+    requires { array_string_len text.old + length name.now + 22 ≤ LONGEST_TEXT }
+    ensures bytes { text.new.bytes ≡ text.old.bytes ++ line name.now (decimal number) }
+    ensures bound { array_string_len text.new ≤ array_string_len text.old + length name.now + 22 }
 {
     let mut digits = Buffer::new();
-    put_line(name, digits.format(n).as_bytes(), out, at)
+    push_line(text, name, digits.format(number));
 }
 
-fn put_register(name: &[u8], w: u16, out: &mut [u8], at: usize) -> usize
-    requires { at + length name.now + 8 ≤ length out.old }
-    ensures value { result ≡ at + length name.now + 8 }
-    ensures out_after { take result out.new ≡ take at out.old ++ line name.now (octal w) }
+// A word in octal, six digits.
+#[tactic(auto, using(crate::proofs::Laws::octal_utf8))]
+fn octal_digits(word: u16) -> ArrayString<6>
+    ensures { result.bytes ≡ octal word }
 {
     let digits = [
-        48 + (w / 32768) as u8,
-        48 + (w / 4096 % 8) as u8,
-        48 + (w / 512 % 8) as u8,
-        48 + (w / 64 % 8) as u8,
-        48 + (w / 8 % 8) as u8,
-        48 + (w % 8) as u8,
+        b'0' + (word / 0o100000) as u8,
+        b'0' + (word / 0o10000 % 8) as u8,
+        b'0' + (word / 0o1000 % 8) as u8,
+        b'0' + (word / 0o100 % 8) as u8,
+        b'0' + (word / 0o10 % 8) as u8,
+        b'0' + (word % 8) as u8,
     ];
-    put_line(name, &digits, out, at)
+    ArrayString::from_byte_string(&digits).unwrap()
 }
 
-// The lines of registers with a name of one letter.
-fn put_registers(names: &[u8], words: &[u16], out: &mut [u8], at: usize) -> usize
-    requires names_len { length names.now ≡ length words.now }
-    requires names_in_bounds { at + length names.now * 9 ≤ length out.old }
-    ensures value { result ≡ at + length names.now * 9 }
-    ensures out_after { take result out.new
-        ≡ take at out.old ++ register_lines names.now words.now }
+fn push_register(text: &mut Text, name: &str, word: u16)
+    requires { array_string_len text.old + length name.now + 8 ≤ LONGEST_TEXT }
+    ensures bytes { text.new.bytes ≡ text.old.bytes ++ line name.now (octal word) }
+    ensures len { array_string_len text.new ≡ array_string_len text.old + length name.now + 8 }
 {
-    let mut end = at;
-    let mut i = 0;
-    while i < names.len() {
-        end = put_register(&[names[i]], words[i], out, end);
-        i += 1;
-    }
-    end
+    push_line(text, name, &octal_digits(word));
 }
 
-fn put_reason(w: Reason, out: &mut [u8]) -> usize
-    requires { 16 ≤ length out.old }
-    ensures upper_bound { result ≤ 16 }
-    ensures out_after { take result out.new ≡ line (ascii "ended") (reason_name w) }
+fn reason_name(reason: Reason) -> &'static str
+    ensures value { result.now ≡ reason_name reason }
+    ensures bound { length result.now ≤ 9 }
 {
-    let name = &[b'e', b'n', b'd', b'e', b'd'];
-    match w {
-        Reason::Stopped => put_line(name, &[b's', b't', b'o', b'p', b'p', b'e', b'd'], out, 0),
-        Reason::Level => put_line(name, &[b'l', b'e', b'v', b'e', b'l'], out, 0),
-        Reason::Spent => put_line(name, &[b's', b'p', b'e', b'n', b't'], out, 0),
-        Reason::Interrupt => put_line(
-            name,
-            &[b'i', b'n', b't', b'e', b'r', b'r', b'u', b'p', b't'],
-            out,
-            0,
-        ),
+    match reason {
+        Reason::Stopped => "stopped",
+        Reason::Level => "level",
+        Reason::Spent => "spent",
+        Reason::Interrupt => "interrupt",
     }
 }
 
 // The registers with a name of one letter.
-fn one_letter(f: File) -> [u16; 7]
-    ensures { result ≡ one_letter f }
+fn push_registers(text: &mut Text, file: File)
+    requires { array_string_len text.old + 63 ≤ LONGEST_TEXT }
+    ensures { text.new.bytes ≡ text.old.bytes ++ register_lines (ascii "DPBLATX") (one_letter file) }
 {
-    [
-        f.get(Register::D),
-        f.get(Register::P),
-        f.get(Register::B),
-        f.get(Register::L),
-        f.get(Register::A),
-        f.get(Register::T),
-        f.get(Register::X),
-    ]
+    push_register(text, "D", file.d);
+    push_register(text, "P", file.p);
+    push_register(text, "B", file.b);
+    push_register(text, "L", file.l);
+    push_register(text, "A", file.a);
+    push_register(text, "T", file.t);
+    push_register(text, "X", file.x);
 }
 
-fn put_end(e: End, out: &mut [u8]) -> usize
-    requires { 144 ≤ length out.old }
-    ensures upper_bound { result ≤ 144 }
-    ensures out_after { take result out.new ≡ end_text e }
+fn push_end(text: &mut Text, end: End)
+    requires { text.old.bytes ≡ [] }
+    ensures { text.new.bytes ≡ end_text end }
 {
-    let w = e.reason;
-    let a = put_reason(w, out);
-    let b = put_number(&[b's', b't', b'e', b'p', b's'], e.steps, out, a);
-    let c = put_number(&[b'l', b'e', b'v', b'e', b'l'], e.level as u64, out, b);
-    let f = e.file;
-    let d = put_register(&[b'S', b'T', b'S'], f.get(Register::Sts), out, c);
-    let names = &[b'D', b'P', b'B', b'L', b'A', b'T', b'X'];
-    let words = one_letter(f);
-    put_registers(names, &words, out, d)
-}
-
-fn put_turned(t: Turned, out: &mut [u8]) -> usize
-    requires { 144 ≤ length out.old }
-    ensures upper_bound { result ≤ 144 }
-    ensures out_after { take result out.new ≡ text_of t }
-{
-    match t {
-        Turned::Refused(r) => put_number(
-            &[b'r', b'e', b'f', b'u', b's', b'e', b'd'],
-            refusal_number(r) as u64,
-            out,
-            0,
-        ),
-        Turned::Ended(e) => put_end(e, out),
-    }
-}
-
-// A text: the first `len` of the bytes.
-#[derive(Clone, Copy)]
-pub struct Text {
-    pub bytes: [u8; 144],
-    pub len: usize,
+    push_line(text, "ended", reason_name(end.reason));
+    push_number(text, "steps", end.steps);
+    push_number(text, "level", u64::from(end.level));
+    push_register(text, "STS", end.file.sts);
+    push_registers(text, end.file);
 }
 
 // What is printed.
-pub fn text_of(t: Turned) -> Text
-    ensures len_in_bounds { result.len ≤ length result.bytes }
-    ensures bytes_value { take result.len result.bytes ≡ text_of t }
+pub fn text_of(turned: Result<End, Refusal>) -> Text
+    ensures { result.bytes ≡ text_of turned }
 {
-    let mut bytes = [0u8; 144];
-    let len = put_turned(t, &mut bytes);
-    Text {
-        bytes: bytes,
-        len: len,
+    let mut text = Text::new();
+    match turned {
+        Ok(end) => push_end(&mut text, end),
+        Err(refusal) => push_number(&mut text, "refused", u64::from(u16::from(refusal))),
     }
+    text
 }

@@ -3,190 +3,292 @@
 ghost use Rattle.std.specs.Prelude.{◌≡◌, length};
 ghost use Rattle.word_class.specs.Classes.{sorted_values, Sorts};
 
-pub type ClassTable = [u8; 1024];
+use crate::Class::{self, *};
+use isa::instruction::CarryIn::{NoCarry, One, Previous};
+use isa::instruction::LogicOp::{Rand, Rexo, Rora, Swap};
+use isa::instruction::MemoryOp::*;
+use isa::instruction::Relation::{Eql, Geq, Gre, Lss, Lst, Mgre, Mlst, Ueq};
 
-const CLASSES: ClassTable = [
+// Short names, so that many entries stand on a line: document 002's, with AD1 and ADC of RADD, and X for each letter of
+// JAP to JXN, SAB to SAX and AAB to AAX.
+const STZ: Class = Memory(Stz);
+
+const STA: Class = Memory(Sta);
+
+const STT: Class = Memory(Stt);
+
+const STX: Class = Memory(Stx);
+
+const STD: Class = Memory(Std);
+
+const LDD: Class = Memory(Ldd);
+
+const STF: Class = Memory(Stf);
+
+const LDF: Class = Memory(Ldf);
+
+const MIN: Class = Memory(Min);
+
+const LDA: Class = Memory(Lda);
+
+const LDT: Class = Memory(Ldt);
+
+const LDX: Class = Memory(Ldx);
+
+const ADD: Class = Memory(Add);
+
+const SUB: Class = Memory(Sub);
+
+const AND: Class = Memory(And);
+
+const ORA: Class = Memory(Ora);
+
+const MPY: Class = Memory(Mpy);
+
+const JMP: Class = Memory(Jmp);
+
+const JXX: Class = ConditionalJump;
+
+const JPL: Class = Memory(Jpl);
+
+const SKP_EQL: Class = Skip(Eql);
+
+const SKP_GEQ: Class = Skip(Geq);
+
+const SKP_GRE: Class = Skip(Gre);
+
+const SKP_MGRE: Class = Skip(Mgre);
+
+const SKP_UEQ: Class = Skip(Ueq);
+
+const SKP_LSS: Class = Skip(Lss);
+
+const SKP_LST: Class = Skip(Lst);
+
+const SKP_MLST: Class = Skip(Mlst);
+
+const SWAP: Class = Logic(Swap);
+
+const RAND: Class = Logic(Rand);
+
+const REXO: Class = Logic(Rexo);
+
+const RORA: Class = Logic(Rora);
+
+const RADD: Class = RegisterAdd(NoCarry);
+
+const RADD_AD1: Class = RegisterAdd(One);
+
+const RADD_ADC: Class = RegisterAdd(Previous);
+
+const RADD_BOTH: Class = NoOperation;
+
+const SAX: Class = SetArgument;
+
+const AAX: Class = AddArgument;
+
+pub static CLASSES: [Class; 1024] = [
     // 000000 STZ
-    0, 0, 0, 0, 0, 0, 0, 0, 0, 0, 0, 0, 0, 0, 0, 0, 0, 0, 0, 0, 0, 0, 0, 0, 0, 0, 0, 0, 0, 0, 0, 0,
+    STZ, STZ, STZ, STZ, STZ, STZ, STZ, STZ, STZ, STZ, STZ, STZ, STZ, STZ, STZ, STZ, STZ, STZ, STZ,
+    STZ, STZ, STZ, STZ, STZ, STZ, STZ, STZ, STZ, STZ, STZ, STZ, STZ,
     // 004000 STA
-    1, 1, 1, 1, 1, 1, 1, 1, 1, 1, 1, 1, 1, 1, 1, 1, 1, 1, 1, 1, 1, 1, 1, 1, 1, 1, 1, 1, 1, 1, 1, 1,
+    STA, STA, STA, STA, STA, STA, STA, STA, STA, STA, STA, STA, STA, STA, STA, STA, STA, STA, STA,
+    STA, STA, STA, STA, STA, STA, STA, STA, STA, STA, STA, STA, STA,
     // 010000 STT
-    2, 2, 2, 2, 2, 2, 2, 2, 2, 2, 2, 2, 2, 2, 2, 2, 2, 2, 2, 2, 2, 2, 2, 2, 2, 2, 2, 2, 2, 2, 2, 2,
+    STT, STT, STT, STT, STT, STT, STT, STT, STT, STT, STT, STT, STT, STT, STT, STT, STT, STT, STT,
+    STT, STT, STT, STT, STT, STT, STT, STT, STT, STT, STT, STT, STT,
     // 014000 STX
-    3, 3, 3, 3, 3, 3, 3, 3, 3, 3, 3, 3, 3, 3, 3, 3, 3, 3, 3, 3, 3, 3, 3, 3, 3, 3, 3, 3, 3, 3, 3, 3,
+    STX, STX, STX, STX, STX, STX, STX, STX, STX, STX, STX, STX, STX, STX, STX, STX, STX, STX, STX,
+    STX, STX, STX, STX, STX, STX, STX, STX, STX, STX, STX, STX, STX,
     // 020000 STD
-    4, 4, 4, 4, 4, 4, 4, 4, 4, 4, 4, 4, 4, 4, 4, 4, 4, 4, 4, 4, 4, 4, 4, 4, 4, 4, 4, 4, 4, 4, 4, 4,
+    STD, STD, STD, STD, STD, STD, STD, STD, STD, STD, STD, STD, STD, STD, STD, STD, STD, STD, STD,
+    STD, STD, STD, STD, STD, STD, STD, STD, STD, STD, STD, STD, STD,
     // 024000 LDD
-    5, 5, 5, 5, 5, 5, 5, 5, 5, 5, 5, 5, 5, 5, 5, 5, 5, 5, 5, 5, 5, 5, 5, 5, 5, 5, 5, 5, 5, 5, 5, 5,
+    LDD, LDD, LDD, LDD, LDD, LDD, LDD, LDD, LDD, LDD, LDD, LDD, LDD, LDD, LDD, LDD, LDD, LDD, LDD,
+    LDD, LDD, LDD, LDD, LDD, LDD, LDD, LDD, LDD, LDD, LDD, LDD, LDD,
     // 030000 STF
-    6, 6, 6, 6, 6, 6, 6, 6, 6, 6, 6, 6, 6, 6, 6, 6, 6, 6, 6, 6, 6, 6, 6, 6, 6, 6, 6, 6, 6, 6, 6, 6,
+    STF, STF, STF, STF, STF, STF, STF, STF, STF, STF, STF, STF, STF, STF, STF, STF, STF, STF, STF,
+    STF, STF, STF, STF, STF, STF, STF, STF, STF, STF, STF, STF, STF,
     // 034000 LDF
-    7, 7, 7, 7, 7, 7, 7, 7, 7, 7, 7, 7, 7, 7, 7, 7, 7, 7, 7, 7, 7, 7, 7, 7, 7, 7, 7, 7, 7, 7, 7, 7,
+    LDF, LDF, LDF, LDF, LDF, LDF, LDF, LDF, LDF, LDF, LDF, LDF, LDF, LDF, LDF, LDF, LDF, LDF, LDF,
+    LDF, LDF, LDF, LDF, LDF, LDF, LDF, LDF, LDF, LDF, LDF, LDF, LDF,
     // 040000 MIN
-    8, 8, 8, 8, 8, 8, 8, 8, 8, 8, 8, 8, 8, 8, 8, 8, 8, 8, 8, 8, 8, 8, 8, 8, 8, 8, 8, 8, 8, 8, 8, 8,
+    MIN, MIN, MIN, MIN, MIN, MIN, MIN, MIN, MIN, MIN, MIN, MIN, MIN, MIN, MIN, MIN, MIN, MIN, MIN,
+    MIN, MIN, MIN, MIN, MIN, MIN, MIN, MIN, MIN, MIN, MIN, MIN, MIN,
     // 044000 LDA
-    9, 9, 9, 9, 9, 9, 9, 9, 9, 9, 9, 9, 9, 9, 9, 9, 9, 9, 9, 9, 9, 9, 9, 9, 9, 9, 9, 9, 9, 9, 9, 9,
+    LDA, LDA, LDA, LDA, LDA, LDA, LDA, LDA, LDA, LDA, LDA, LDA, LDA, LDA, LDA, LDA, LDA, LDA, LDA,
+    LDA, LDA, LDA, LDA, LDA, LDA, LDA, LDA, LDA, LDA, LDA, LDA, LDA,
     // 050000 LDT
-    10, 10, 10, 10, 10, 10, 10, 10, 10, 10, 10, 10, 10, 10, 10, 10, 10, 10, 10, 10, 10, 10, 10, 10,
-    10, 10, 10, 10, 10, 10, 10, 10,
+    LDT, LDT, LDT, LDT, LDT, LDT, LDT, LDT, LDT, LDT, LDT, LDT, LDT, LDT, LDT, LDT, LDT, LDT, LDT,
+    LDT, LDT, LDT, LDT, LDT, LDT, LDT, LDT, LDT, LDT, LDT, LDT, LDT,
     // 054000 LDX
-    11, 11, 11, 11, 11, 11, 11, 11, 11, 11, 11, 11, 11, 11, 11, 11, 11, 11, 11, 11, 11, 11, 11, 11,
-    11, 11, 11, 11, 11, 11, 11, 11,
+    LDX, LDX, LDX, LDX, LDX, LDX, LDX, LDX, LDX, LDX, LDX, LDX, LDX, LDX, LDX, LDX, LDX, LDX, LDX,
+    LDX, LDX, LDX, LDX, LDX, LDX, LDX, LDX, LDX, LDX, LDX, LDX, LDX,
     // 060000 ADD
-    12, 12, 12, 12, 12, 12, 12, 12, 12, 12, 12, 12, 12, 12, 12, 12, 12, 12, 12, 12, 12, 12, 12, 12,
-    12, 12, 12, 12, 12, 12, 12, 12,
+    ADD, ADD, ADD, ADD, ADD, ADD, ADD, ADD, ADD, ADD, ADD, ADD, ADD, ADD, ADD, ADD, ADD, ADD, ADD,
+    ADD, ADD, ADD, ADD, ADD, ADD, ADD, ADD, ADD, ADD, ADD, ADD, ADD,
     // 064000 SUB
-    13, 13, 13, 13, 13, 13, 13, 13, 13, 13, 13, 13, 13, 13, 13, 13, 13, 13, 13, 13, 13, 13, 13, 13,
-    13, 13, 13, 13, 13, 13, 13, 13,
+    SUB, SUB, SUB, SUB, SUB, SUB, SUB, SUB, SUB, SUB, SUB, SUB, SUB, SUB, SUB, SUB, SUB, SUB, SUB,
+    SUB, SUB, SUB, SUB, SUB, SUB, SUB, SUB, SUB, SUB, SUB, SUB, SUB,
     // 070000 AND
-    14, 14, 14, 14, 14, 14, 14, 14, 14, 14, 14, 14, 14, 14, 14, 14, 14, 14, 14, 14, 14, 14, 14, 14,
-    14, 14, 14, 14, 14, 14, 14, 14,
+    AND, AND, AND, AND, AND, AND, AND, AND, AND, AND, AND, AND, AND, AND, AND, AND, AND, AND, AND,
+    AND, AND, AND, AND, AND, AND, AND, AND, AND, AND, AND, AND, AND,
     // 074000 ORA
-    15, 15, 15, 15, 15, 15, 15, 15, 15, 15, 15, 15, 15, 15, 15, 15, 15, 15, 15, 15, 15, 15, 15, 15,
-    15, 15, 15, 15, 15, 15, 15, 15,
+    ORA, ORA, ORA, ORA, ORA, ORA, ORA, ORA, ORA, ORA, ORA, ORA, ORA, ORA, ORA, ORA, ORA, ORA, ORA,
+    ORA, ORA, ORA, ORA, ORA, ORA, ORA, ORA, ORA, ORA, ORA, ORA, ORA,
     // 100000 illegal
-    60, 60, 60, 60, 60, 60, 60, 60, 60, 60, 60, 60, 60, 60, 60, 60, 60, 60, 60, 60, 60, 60, 60, 60,
-    60, 60, 60, 60, 60, 60, 60, 60, 60, 60, 60, 60, 60, 60, 60, 60, 60, 60, 60, 60, 60, 60, 60, 60,
-    60, 60, 60, 60, 60, 60, 60, 60, 60, 60, 60, 60, 60, 60, 60, 60, 60, 60, 60, 60, 60, 60, 60, 60,
-    60, 60, 60, 60, 60, 60, 60, 60, 60, 60, 60, 60, 60, 60, 60, 60, 60, 60, 60, 60, 60, 60, 60, 60,
-    60, 60, 60, 60, 60, 60, 60, 60, 60, 60, 60, 60, 60, 60, 60, 60, 60, 60, 60, 60, 60, 60, 60, 60,
-    60, 60, 60, 60, 60, 60, 60, 60,
+    Illegal, Illegal, Illegal, Illegal, Illegal, Illegal, Illegal, Illegal, Illegal, Illegal,
+    Illegal, Illegal, Illegal, Illegal, Illegal, Illegal, Illegal, Illegal, Illegal, Illegal,
+    Illegal, Illegal, Illegal, Illegal, Illegal, Illegal, Illegal, Illegal, Illegal, Illegal,
+    Illegal, Illegal, Illegal, Illegal, Illegal, Illegal, Illegal, Illegal, Illegal, Illegal,
+    Illegal, Illegal, Illegal, Illegal, Illegal, Illegal, Illegal, Illegal, Illegal, Illegal,
+    Illegal, Illegal, Illegal, Illegal, Illegal, Illegal, Illegal, Illegal, Illegal, Illegal,
+    Illegal, Illegal, Illegal, Illegal, Illegal, Illegal, Illegal, Illegal, Illegal, Illegal,
+    Illegal, Illegal, Illegal, Illegal, Illegal, Illegal, Illegal, Illegal, Illegal, Illegal,
+    Illegal, Illegal, Illegal, Illegal, Illegal, Illegal, Illegal, Illegal, Illegal, Illegal,
+    Illegal, Illegal, Illegal, Illegal, Illegal, Illegal, Illegal, Illegal, Illegal, Illegal,
+    Illegal, Illegal, Illegal, Illegal, Illegal, Illegal, Illegal, Illegal, Illegal, Illegal,
+    Illegal, Illegal, Illegal, Illegal, Illegal, Illegal, Illegal, Illegal, Illegal, Illegal,
+    Illegal, Illegal, Illegal, Illegal, Illegal, Illegal, Illegal, Illegal,
     // 120000 MPY
-    16, 16, 16, 16, 16, 16, 16, 16, 16, 16, 16, 16, 16, 16, 16, 16, 16, 16, 16, 16, 16, 16, 16, 16,
-    16, 16, 16, 16, 16, 16, 16, 16,
+    MPY, MPY, MPY, MPY, MPY, MPY, MPY, MPY, MPY, MPY, MPY, MPY, MPY, MPY, MPY, MPY, MPY, MPY, MPY,
+    MPY, MPY, MPY, MPY, MPY, MPY, MPY, MPY, MPY, MPY, MPY, MPY, MPY,
     // 124000 JMP
-    17, 17, 17, 17, 17, 17, 17, 17, 17, 17, 17, 17, 17, 17, 17, 17, 17, 17, 17, 17, 17, 17, 17, 17,
-    17, 17, 17, 17, 17, 17, 17, 17,
+    JMP, JMP, JMP, JMP, JMP, JMP, JMP, JMP, JMP, JMP, JMP, JMP, JMP, JMP, JMP, JMP, JMP, JMP, JMP,
+    JMP, JMP, JMP, JMP, JMP, JMP, JMP, JMP, JMP, JMP, JMP, JMP, JMP,
     // 130000 JAP to JXN
-    18, 18, 18, 18, 18, 18, 18, 18, 18, 18, 18, 18, 18, 18, 18, 18, 18, 18, 18, 18, 18, 18, 18, 18,
-    18, 18, 18, 18, 18, 18, 18, 18,
+    JXX, JXX, JXX, JXX, JXX, JXX, JXX, JXX, JXX, JXX, JXX, JXX, JXX, JXX, JXX, JXX, JXX, JXX, JXX,
+    JXX, JXX, JXX, JXX, JXX, JXX, JXX, JXX, JXX, JXX, JXX, JXX, JXX,
     // 134000 JPL
-    19, 19, 19, 19, 19, 19, 19, 19, 19, 19, 19, 19, 19, 19, 19, 19, 19, 19, 19, 19, 19, 19, 19, 19,
-    19, 19, 19, 19, 19, 19, 19, 19,
+    JPL, JPL, JPL, JPL, JPL, JPL, JPL, JPL, JPL, JPL, JPL, JPL, JPL, JPL, JPL, JPL, JPL, JPL, JPL,
+    JPL, JPL, JPL, JPL, JPL, JPL, JPL, JPL, JPL, JPL, JPL, JPL, JPL,
     // 140000 SKP EQL
-    20,
+    SKP_EQL,
     // 140100 illegal
-    60, 60, 60,
+    Illegal, Illegal, Illegal,
     // 140400 SKP GEQ
-    21,
+    SKP_GEQ,
     // 140500 illegal
-    60,
+    Illegal,
     // 140600 EXR
-    22,
+    Exr,
     // 140700 illegal
-    60,
+    Illegal,
     // 141000 SKP GRE
-    23,
+    SKP_GRE,
     // 141100 illegal
-    60,
+    Illegal,
     // 141200 RMPY
-    24,
+    Rmpy,
     // 141300 illegal
-    60,
+    Illegal,
     // 141400 SKP MGRE
-    25,
+    SKP_MGRE,
     // 141500 illegal
-    60,
+    Illegal,
     // 141600 RDIV
-    26,
+    Rdiv,
     // 141700 illegal
-    60,
+    Illegal,
     // 142000 SKP UEQ
-    27,
+    SKP_UEQ,
     // 142100 illegal
-    60,
+    Illegal,
     // 142200 LBYT
-    28,
+    Lbyt,
     // 142300 illegal
-    60,
+    Illegal,
     // 142400 SKP LSS
-    29,
+    SKP_LSS,
     // 142500 illegal
-    60,
+    Illegal,
     // 142600 SBYT
-    30,
+    Sbyt,
     // 142700 illegal
-    60,
+    Illegal,
     // 143000 SKP LST
-    31,
+    SKP_LST,
     // 143100 illegal
-    60,
+    Illegal,
     // 143200 MIX3
-    32,
+    Mix3,
     // 143300 LDATX to 143376 STDTX
-    33,
+    Transfer,
     // 143400 SKP MLST
-    34,
+    SKP_MLST,
     // 143500 illegal
-    60,
+    Illegal,
     // 143600 IDENT
-    35,
+    Ident,
     // 143700 illegal
-    60,
+    Illegal,
     // 144000 SWAP
-    36, 36, 36, 36,
+    SWAP, SWAP, SWAP, SWAP,
     // 144400 RAND
-    37, 37, 37, 37,
+    RAND, RAND, RAND, RAND,
     // 145000 REXO
-    38, 38, 38, 38,
+    REXO, REXO, REXO, REXO,
     // 145400 RORA
-    39, 39, 39, 39,
+    RORA, RORA, RORA, RORA,
     // 146000 RADD
-    40, 40, 40, 40,
+    RADD, RADD, RADD, RADD,
     // 146400 RADD AD1
-    41, 41, 41, 41,
+    RADD_AD1, RADD_AD1, RADD_AD1, RADD_AD1,
     // 147000 RADD ADC
-    42, 42, 42, 42,
+    RADD_ADC, RADD_ADC, RADD_ADC, RADD_ADC,
     // 147400 RADD AD1 ADC
-    43, 43, 43, 43,
+    RADD_BOTH, RADD_BOTH, RADD_BOTH, RADD_BOTH,
     // 150000 TRA
-    44,
+    Tra,
     // 150100 TRR
-    45,
+    Trr,
     // 150200 MCL
-    46,
+    Mcl,
     // 150300 MST
-    47,
+    Mst,
     // 150400 the switches, IOXT, EXAM, DEPO
-    48,
+    Switch,
     // 150500 illegal
-    60, 60, 60,
+    Illegal, Illegal, Illegal,
     // 151000 WAIT
-    49, 49, 49, 49,
+    Wait, Wait, Wait, Wait,
     // 151400 illegal
-    60, 60, 60, 60, 60, 60, 60, 60,
+    Illegal, Illegal, Illegal, Illegal, Illegal, Illegal, Illegal, Illegal,
     // 152400 SRB
-    50, 50,
+    Srb, Srb,
     // 152600 LRB
-    51, 51,
+    Lrb, Lrb,
     // 153000 MON
-    52, 52, 52, 52,
+    Mon, Mon, Mon, Mon,
     // 153400 IRW
-    53, 53,
+    Irw, Irw,
     // 153600 IRR
-    54, 54,
+    Irr, Irr,
     // 154000 SHT to SAD
-    55, 55, 55, 55, 55, 55, 55, 55, 55, 55, 55, 55, 55, 55, 55, 55, 55, 55, 55, 55, 55, 55, 55, 55,
-    55, 55, 55, 55, 55, 55, 55, 55,
+    Shift, Shift, Shift, Shift, Shift, Shift, Shift, Shift, Shift, Shift, Shift, Shift, Shift,
+    Shift, Shift, Shift, Shift, Shift, Shift, Shift, Shift, Shift, Shift, Shift, Shift, Shift,
+    Shift, Shift, Shift, Shift, Shift, Shift,
     // 160000 illegal
-    60, 60, 60, 60, 60, 60, 60, 60, 60, 60, 60, 60, 60, 60, 60, 60, 60, 60, 60, 60, 60, 60, 60, 60,
-    60, 60, 60, 60, 60, 60, 60, 60,
+    Illegal, Illegal, Illegal, Illegal, Illegal, Illegal, Illegal, Illegal, Illegal, Illegal,
+    Illegal, Illegal, Illegal, Illegal, Illegal, Illegal, Illegal, Illegal, Illegal, Illegal,
+    Illegal, Illegal, Illegal, Illegal, Illegal, Illegal, Illegal, Illegal, Illegal, Illegal,
+    Illegal, Illegal,
     // 164000 IOX
-    56, 56, 56, 56, 56, 56, 56, 56, 56, 56, 56, 56, 56, 56, 56, 56, 56, 56, 56, 56, 56, 56, 56, 56,
-    56, 56, 56, 56, 56, 56, 56, 56,
+    Iox, Iox, Iox, Iox, Iox, Iox, Iox, Iox, Iox, Iox, Iox, Iox, Iox, Iox, Iox, Iox, Iox, Iox, Iox,
+    Iox, Iox, Iox, Iox, Iox, Iox, Iox, Iox, Iox, Iox, Iox, Iox, Iox,
     // 170000 SAB to SAX
-    57, 57, 57, 57, 57, 57, 57, 57, 57, 57, 57, 57, 57, 57, 57, 57,
+    SAX, SAX, SAX, SAX, SAX, SAX, SAX, SAX, SAX, SAX, SAX, SAX, SAX, SAX, SAX, SAX,
     // 172000 AAB to AAX
-    58, 58, 58, 58, 58, 58, 58, 58, 58, 58, 58, 58, 58, 58, 58, 58,
+    AAX, AAX, AAX, AAX, AAX, AAX, AAX, AAX, AAX, AAX, AAX, AAX, AAX, AAX, AAX, AAX,
     // 174000 BSET to BORA
-    59, 59, 59, 59, 59, 59, 59, 59, 59, 59, 59, 59, 59, 59, 59, 59, 59, 59, 59, 59, 59, 59, 59, 59,
-    59, 59, 59, 59, 59, 59, 59, 59, // 177700
+    Bit, Bit, Bit, Bit, Bit, Bit, Bit, Bit, Bit, Bit, Bit, Bit, Bit, Bit, Bit, Bit, Bit, Bit, Bit,
+    Bit, Bit, Bit, Bit, Bit, Bit, Bit, Bit, Bit, Bit, Bit, Bit, Bit, // 177700
 ];
 
-// For a run to make once and to lend to each of its steps: an array is stored anew where a function that names it
-// begins.
-pub fn table() -> ClassTable
-    ensures { (length result ≡ sorted_values) × Sorts result }
+// An entry for each place, and each the class of its place.
+pub fn table() -> &'static [Class; 1024]
+    ensures long { length result.now ≡ sorted_values }
+    ensures sorts { Sorts result.now }
 {
-    CLASSES
+    &CLASSES
 }

@@ -6,4 +6,4 @@ use Rattle.devices.proofs.input_asking.Goals as goal
 pub returns : goal.returns
 returns c =
     leaves_by c.answered.ensures refl
-    (λ k. simp (c.pid_after.ensures, c.flip_flop_after.ensures, c.asking-now.ensures))
+    (λ k. simp (c.pid_after.ensures, c.flip_flop_after-asks.ensures, c.asking-now.ensures))

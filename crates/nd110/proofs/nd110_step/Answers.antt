@@ -1,18 +1,12 @@
 -- A step of the lent words.
-use Rattle.std.proofs.Common.{◌≡◌, ℕ, ◌-◌, sym, ap, ◌∙◌, List, [], ◌∷◌, length, take, drop, length-drop, length-take-le, arith}
+use Rattle.std.proofs.Common.{◌≡◌, ℕ, ◌-◌, ap, ◌∙◌, List, [], ◌∷◌, ◌++◌, length, take, drop, get_or}
+use Rattle.std.proofs.Common.{length-append, length-drop, arith, rules}
 use Rattle.std.proofs.Math.Seq.{take_all}
-use Rattle.isa.specs.Machine.{register_words, control_count, first_device, control_of, state_of}
+use Rattle.isa.specs.Answers.{step_call}
+use Rattle.isa.specs.Machine.{state_with, state_words, register_words, control_count, first_device, control_of}
+use Rattle.isa.specs.Machine.{state_of}
 use Rattle.nd110.proofs.Laws.{step_on_words}
 use Rattle.nd110.proofs.nd110_step.Goals as goal
-
--- the registers are lent
-pub slice_bounds-step-end-2 : goal.slice_bounds-step-end-2
-slice_bounds-step-end-2 c =
-    sym (length-take-le register_words c.args.state.now (omega (arith, c.if-state-ne-STATE_WORDS.false)))
-
-pub step-r-requires-clause-regs_len : goal.step-r-requires-clause-regs_len
-step-r-requires-clause-regs_len c =
-    length-take-le register_words c.args.state.now (omega (arith, c.if-state-ne-STATE_WORDS.false))
 
 -- the call was made
 pub returns : goal.returns
@@ -26,5 +20,11 @@ returns c =
     (c.control_of-k.ensures
     ∙ ap (λ (l : List ℕ). control_of (state_of [] (take control_count (drop register_words w)) l)) rest)
     c.pcrs_of-pcrs.ensures
-    (c.step-r.auto.regs ∙ length-take-le register_words w (omega (arith, long)))
-    c.step-r.ensures (c.tell_step.ensures _ _)
+    (let z : length (c.step-r.new.regs ++ drop register_words w) ≡ state_words = search rules in
+    omega (arith, simp (length-append, length-drop) at z))
+    (c.step-r.ensures
+    ∙ ap
+    (λ (b : List ℕ). step_call
+    (state_with (get_or w register_words 0) c.control_of-k.result b c.pcrs_of-pcrs.result) a.mem.now a.tables.now)
+    c.in-Some.ensures.cases.same)
+    (c.tell_step.ensures _ _)

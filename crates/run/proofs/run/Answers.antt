@@ -1,5 +1,5 @@
 -- The loop on the running level's words out of those of all levels, which are put back.
-use Rattle.std.proofs.Common.{◌≡◌, ◌<◌, length, ap, ◌∙◌}
+use Rattle.std.proofs.Common.{rules, ◌≡◌, ◌<◌, length, ap, ◌∙◌}
 use Rattle.isa.specs.Machine.{state_with, pack, core_of, level_count, register_words}
 use Rattle.isa.specs.Step.{step}
 use Rattle.isa.specs.Run.{run_from}
@@ -26,7 +26,7 @@ returns-clause-tables_after c =
     (state_with e.level e.core.control (back.regs_after i) (back.pcrs_after i)) r.new.mem r.new.tables)
     ∙ r.ensures.tables_after
     ∙ ap (λ (x : State). run_from a.first a.n 0 x a.mem.now a.tables.now)
-    (packed s c.opened-c.ensures c.requires.level_lt_level_count c.requires.regs_len.0)
+    (packed s c.opened-c.ensures c.requires.level_lt_level_count (search rules))
 
 pub returns-clause-one_step : goal.returns-clause-one_step
 returns-clause-one_step c =
@@ -40,4 +40,4 @@ returns-clause-one_step c =
     r.new.mem r.new.tables)
     ∙ r.ensures.one_step o f
     ∙ ap (λ (x : State). step x a.mem.now a.tables.now)
-    (packed s c.opened-c.ensures c.requires.level_lt_level_count c.requires.regs_len.0)
+    (packed s c.opened-c.ensures c.requires.level_lt_level_count (search rules))

@@ -1,17 +1,17 @@
 -- The run of the steps to go, with those before it.
-use Rattle.std.proofs.Common.{ℕ, ◌+◌, ◌-◌, true, sym, ap, ◌∙◌, arith}
+use Rattle.std.proofs.Common.{ℕ, ◌-◌, true, sym, ap, ◌∙◌, arith}
 use Rattle.isa.specs.Machine.{state_with}
 use Rattle.isa.specs.Run.{Run, counted_run, run_from}
-use Rattle.run.specs.Runs.{ran_with}
 use Rattle.isa.proofs.Runs.{run_taken, run_shift, later}
 use Rattle.run_input.proofs.run_on.Goals as goal
 
-pub overflow_add-r : goal.overflow_add-r
-overflow_add-r c =
+pub overflow_add-result : goal.overflow_add-result
+overflow_add-result c =
     let a = c.args in
     let s = state_with a.level a.k a.regs.now a.pcrs.now in
     let total =
-    c.run-r.ensures.tables_after ∙ ap (λ (n : ℕ). run_from true n 0 s a.mem.now a.tables.now) c.to_go.ensures in
+    c.run-r.ensures.tables_after
+    ∙ ap (λ (n : ℕ). run_from true n 0 s a.mem.now a.tables.now) c.saturating_sub.ensures in
     let most = (run_taken true (a.to - a.from) 0 s a.mem.now a.tables.now).most in
     let steps = ap (λ (r : Run). r.steps) total in
     record { fits = omega (arith, most, steps, c.ranges.from.fits, c.ranges.to.fits) }
@@ -21,11 +21,7 @@ returns-clause-tables_after c =
     let a = c.args in
     let s = state_with a.level a.k a.regs.now a.pcrs.now in
     let total =
-    c.run-r.ensures.tables_after ∙ ap (λ (n : ℕ). run_from true n 0 s a.mem.now a.tables.now) c.to_go.ensures in
-    let r = c.run-r.result in
-    let left = c.run-r.new in
-    let at : ℕ → Run = λ g.
-    ran_with g r.reason (a.from + r.steps) (state_with r.level r.control left.regs left.pcrs) left.mem left.tables in
-    ap at c.wrapping_add_u64.ensures.value
-    ∙ ap (λ (y : Run). counted_run a.references (later a.from y)) total
+    c.run-r.ensures.tables_after
+    ∙ ap (λ (n : ℕ). run_from true n 0 s a.mem.now a.tables.now) c.saturating_sub.ensures in
+    ap (λ (y : Run). counted_run a.references (later a.from y)) total
     ∙ ap (counted_run a.references) (sym (run_shift true (a.to - a.from) a.from s a.mem.now a.tables.now))

@@ -1,5 +1,5 @@
 -- What the loop holds: the run stands where the machine is, behind the inputs handed in.
-use Rattle.std.proofs.Common.{◌-◌, ◌<◌, ◌≤◌, length, take}
+use Rattle.std.proofs.Common.{◌<◌, ◌≤◌, length, take}
 use Rattle.isa.specs.Machine.{level_count, state_with}
 use Rattle.isa.specs.DeviceInput.{given_of}
 use Rattle.run_input.proofs.Laws.{Stands}
@@ -14,6 +14,3 @@ invariant-loop-i l = record {
   level : l.level < level_count;
   within : l.i ≤ l.count;
 }
-
-abbrev pub decreases-loop-i : goal.decreases-loop-i
-decreases-loop-i l = l.count - l.i

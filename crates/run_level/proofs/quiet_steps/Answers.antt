@@ -1,11 +1,12 @@
 -- Each step that is fine is one more of the run's; the last one leaves its event.
-use Rattle.std.proofs.Common.{◌≡◌, ℕ, suc, ◌-◌, ◌<◌, true, sym, ap, ◌∙◌, subst, arith, rules}
+use Rattle.std.proofs.Common.{◌≡◌, ℕ, suc, refl, ◌+◌, ◌%◌, ◌-◌, ◌<◌, true, sym, ap, ◌∙◌, subst, arith, rules}
+use Rattle.std.specs.declared.option.Option.{Option}
+use Rattle.std.specs.declared.option.Option.TheVariants.{None}
 use borrow.Author.Tests.{not-false}
 use Rattle.isa.specs.Run.{sum_range}
 use Rattle.isa.specs.declared.access.Rights.{Rights}
 use Rattle.event.specs.Events.{is_fine}
 use Rattle.event.specs.declared.Event.{Event}
-use Rattle.event.specs.declared.Event.TheVariants.{Fine}
 use Rattle.paging.specs.Levels.{on_ring}
 use Rattle.run_level.proofs.Bursts.{Level, Steps, Quiet, all_quiet, then_ends}
 use Rattle.run_level.proofs.Bursts.{then_quiet, level_on, stepped}
@@ -27,7 +28,7 @@ returns-then-ends-clause-quiet_steps c =
     l.invariant.on
     rights s.ensures.step_of_level in
     rw c.burst_of.ensures
-    (then_ends l.invariant.quiet fewer few c.wrapping_add_u64-references.ensures.value there s.result.event one)
+    (then_ends l.invariant.quiet fewer few refl there s.result.event one)
 
 -- one more quiet step
 pub loop-left-preserved : goal.loop-left-preserved
@@ -44,18 +45,17 @@ loop-left-preserved c =
     let one = stepped a.paging a.extended a.p l.ring l.file l.mem l.tables s.result s.new.mem s.new.tables
     l.invariant.on
     rights s.ensures.step_of_level in
-    let e : Event = s.result.event in
+    let e : Option Event = s.result.event in
     let well : is_fine e ≡ true = not-false (is_fine e) (sym c.ends.ensures ∙ c.if-ends.false) in
-    let fine : e ≡ Fine = fine_event e well in
-    let quiet : Steps a.paging a.extended here there made Fine =
+    let fine : e ≡ None = fine_event e well in
+    let quiet : Steps a.paging a.extended here there made None =
     subst (Steps a.paging a.extended here there made) fine one in
-    let added = c.wrapping_add_u64-references in
     let next : suc (a.n - l.left) ≡ a.n - (l.left - 1) = omega arith in
     let start : Level = begun a.f a.p a.mem.now a.tables.now in
     record {
       quiet =
-          subst (λ (k : ℕ). Quiet a.paging a.extended a.n start k there added.result) next
-          (then_quiet l.invariant.quiet fewer few added.ensures.value there quiet);
+          subst (λ (k : ℕ). Quiet a.paging a.extended a.n start k there ((l.references + made) % sum_range)) next
+          (then_quiet l.invariant.quiet fewer few refl there quiet);
       most = omega arith;
       on = s.ensures.ring_after;
       kept = rw c.on_ring.ensures at (s.ensures.kept_after well);

@@ -1,5 +1,5 @@
 -- A change of level is one step; a burst is settled as its last step.
-use Rattle.std.proofs.Common.{◌≡◌, true, false, sym, ◌∙◌}
+use Rattle.std.proofs.Common.{rules, ◌≡◌, true, false, sym, ◌∙◌}
 use Rattle.isa.specs.Machine.{pack}
 use Rattle.isa.specs.Step.{Turn}
 use Rattle.isa.specs.declared.machine.State.{State}
@@ -40,5 +40,5 @@ returns-clause-tables_value c =
     let x : Executes a.level a.c.control = record { runs = h.stopped_value; stays = stays } in
     let r : Turn = advanced_turn out.result out.new.regs out.new.pcrs out.new.mem out.new.tables in
     (advance_burst a.level a.c a.regs.now a.pcrs.now a.mem.now a.tables.now burst.new.mem burst.new.tables a.n
-    burst.result out.result r x h.levels burst.ensures.quiet_steps burst.ensures.quiet_step out.ensures.level_value.1
-    out.ensures.tables_after).1
+    burst.result out.result r x (search rules) burst.ensures.quiet_steps burst.ensures.quiet_step
+    out.ensures.level_value.1 out.ensures.tables_after).1

@@ -4,16 +4,15 @@ use Rattle.trap.proofs.Laws.{event_answered_law, event_unanswered}
 use Rattle.trap.proofs.device_stage.Goals as goal
 
 -- one answered
-pub returns-then-x : goal.returns-then-x
-returns-then-x c =
+pub returns-in-Some : goal.returns-in-Some
+returns-in-Some c =
     let a = c.args in
     λ m t. c.left.ensures m t
-    ∙ simp (c.with_control.ensures, c.with_file.ensures, c.with.ensures)
-    (event_answered_law a.c a.e c.act-x.result c.get.ensures c.act-x.ensures c.if-x.true m t)
+    ∙ simp (c.with_control.ensures, c.with_file.ensures, c.with-file.ensures)
+    (event_answered_law a.c a.e c.get.ensures c.in-Some.x c.act.ensures c.in-Some.is m t)
 
 -- none did
-pub returns : goal.returns
-returns c =
+pub returns-in-None : goal.returns-in-None
+returns-in-None c =
     let a = c.args in
-    λ m t. c.trapped.ensures m t
-    ∙ event_unanswered a.c a.e c.act-x.result c.get.ensures c.act-x.ensures c.if-x.false m t
+    λ m t. c.trapped.ensures m t ∙ event_unanswered a.c a.e c.get.ensures c.act.ensures c.in-None.is m t

@@ -1,5 +1,5 @@
 -- One place more.
-use Rattle.std.proofs.Common.{ℕ, sym, ap, ◌∙◌, add-one, arith}
+use Rattle.std.proofs.Common.{ℕ, sym, ap, ◌∙◌, add-one}
 use Rattle.isa.specs.Flags.{once, places_by}
 use Rattle.arithmetic.specs.Results.{shifted_of}
 use Rattle.arithmetic.proofs.Places.{once_in_width}
@@ -12,6 +12,6 @@ loop-i-preserved c =
     let l = c.loop-i in
     let e = c.once-s.ensures in (
       e ∙ ap (once a.left a.w a.k) l.invariant.0 ∙ sym
-          (ap (λ (j : ℕ). places_by a.left a.w a.k j (shifted_of a.start)) (add-one l.i)),
-      (once_in_width a.left a.w a.k l.s l.invariant.1.0 _ e, omega arith),
+          (ap (λ (j : ℕ). places_by a.left a.w a.k j (shifted_of a.start)) (add-one l._i)),
+      once_in_width a.left a.w a.k l.s l.invariant.1 _ e,
     )

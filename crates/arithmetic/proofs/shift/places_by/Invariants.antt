@@ -1,12 +1,9 @@
--- After i single shifts, the value and M are those of places_by i; the measure is what is left of n.
-use Rattle.std.proofs.Common.{◌≡◌, ◌-◌, ◌≤◌}
+-- After i single shifts, the value and M are those of places_by i, and in the width.
+use Rattle.std.proofs.Common.{◌≡◌}
 use Rattle.isa.specs.Flags.{places_by}
 use Rattle.arithmetic.specs.Results.{shifted_of, InWidth}
 use Rattle.arithmetic.proofs.shift.places_by.Given as goal
 
 abbrev pub invariant-loop-i : goal.invariant-loop-i
 invariant-loop-i l =
-    (shifted_of l.s ≡ places_by l.left l.w l.k l.i (shifted_of l.fn.start)) × (InWidth l.w l.s × (l.i ≤ l.n))
-
-abbrev pub decreases-loop-i : goal.decreases-loop-i
-decreases-loop-i l = l.n - l.i
+    (shifted_of l.s ≡ places_by l.left l.w l.k l._i (shifted_of l.fn.start)) × InWidth l.w l.s

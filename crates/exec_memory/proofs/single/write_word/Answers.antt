@@ -1,29 +1,29 @@
 -- The access fails, or passes and the word is stored.
-use Rattle.std.proofs.Common.{refl}
+use Rattle.std.proofs.Common.{[], ◌∷◌, length, refl, arith}
 use Rattle.exec_address.specs.declared.request.Request.TheVariants.{Write}
-use Rattle.paging.proofs.Outcomes.{found_by, found_within}
-use Rattle.exec_memory.proofs.RequestLaws.{access_fails, one_passed, stores}
+use Rattle.exec_memory.proofs.RequestLaws.{first_passed, first_stopped, none_passed, stores, fails}
 use Rattle.exec_memory.proofs.single.write_word.Goals as goal
 
--- the access failed
-pub returns-then-fault_of-ne0 : goal.returns-then-fault_of-ne0
-returns-then-fault_of-ne0 c =
+-- it passed
+pub returns-in-Ok : goal.returns-in-Ok
+returns-in-Ok c =
     let a = c.args in
-    let e = c.translate-a.ensures in
-    access_fails a.f a.mem.now (Write a.w) a.x refl (found_by (e.value, e.tables_after) c.fault_of.ensures)
-    c.if-fault_of-ne0.true c.failed.ensures
+    let m = a.mem.now in
+    let t = c.test_word in
+    let v = t.new.tables in
+    let p = c.in-Ok.p in
+    stores a.f m a.tables.now v (Write a.w) a.x 1 (omega arith) (p ∷ [])
+    (first_passed a.tables.now (length m) a.x.rights _ [] v t.ensures.tables_after p [] 0 v c.in-Ok.ensures.value
+    (none_passed v (length m) a.x.rights))
+    c.done.ensures refl c.store_at.ensures
 
--- the place lies within memory or tables, which keep their size
-pub store_at-requires-clause-within : goal.store_at-requires-clause-within
-store_at-requires-clause-within c =
-    let e = c.translate-a.ensures in
-    found_within (found_by (e.value, e.tables_after) c.fault_of.ensures)
-
--- the access passed
-pub returns : goal.returns
-returns c =
+-- it failed
+pub returns-in-Err : goal.returns-in-Err
+returns-in-Err c =
     let a = c.args in
-    let e = c.translate-a.ensures in
-    let f = found_by (e.value, e.tables_after) c.fault_of.ensures in
-    stores a.f a.mem.now (Write a.w) a.x (one_passed f c.if-fault_of-ne0.false) refl c.fine.ensures refl
-    c.store_at.ensures
+    let m = a.mem.now in
+    let t = c.test_word in
+    fails a.f m a.tables.now t.new.tables (Write a.w) a.x 1 (omega arith)
+    (first_stopped a.tables.now (length m) a.x.rights _ [] t.new.tables t.ensures.tables_after c.in-Err.e
+    c.in-Err.ensures.value)
+    c.failed.ensures

@@ -17,7 +17,7 @@ returns c =
     let s : List ℕ → State = λ b. pack a.level a.c b a.pcrs.now in
     let lent : List ℕ = set a.pcrs.now a.level a.c.pcr in
     let w : ℕ = reg a.c.file A in
-    λ b z. simp (c.with_pcr.ensures, c.pcr_place-i.ensures.value, c.get-a.ensures)
+    λ b z. simp (c.with_pcr.ensures, c.pcr_place.ensures.value, c.get-a.ensures)
     (ap (with_pcrs (s b)) (set-get_or (set lent (four_of w) (pcr_mask w)) a.level 0)
     ∙ ap (λ (v : ℕ). with_pcrs (s b) (set lent (four_of v) (pcr_mask v)))
     (sym (own_register a.level a.c b a.pcrs.now h z A)))

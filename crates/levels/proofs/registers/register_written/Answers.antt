@@ -1,5 +1,5 @@
 -- A goes to a register of the lent ones, and the running level's are taken out again.
-use Rattle.std.proofs.Common.{ℕ, List, sym, ap, ◌∙◌}
+use Rattle.std.proofs.Common.{rules, ℕ, List, sym, ap, ◌∙◌}
 use Rattle.isa.specs.Machine.{pack}
 use Rattle.isa.specs.Step.{put_other}
 use Rattle.isa.specs.declared.machine.Register.TheVariants.{A}
@@ -15,4 +15,4 @@ returns c =
     let s : List ℕ → State = pack a.level a.c a.regs.now in
     λ p. c.reloaded.ensures a.regs.now p
     ∙ simp (c.put_other.ensures, c.get.ensures, c.put_file.ensures) (other_put (s p) a.l a.r _)
-    ∙ ap (put_other (s p) a.l a.r) (sym (own_register a.level a.c a.regs.now p h.level_lt_level_count h.regs_len A))
+    ∙ ap (put_other (s p) a.l a.r) (sym (own_register a.level a.c a.regs.now p h.level_lt_level_count (search rules) A))

@@ -2,41 +2,41 @@
 use Rattle.std.proofs.Common.{refl, sym, ap, ◌∙◌, lt-ltb, le-ltb, le-leb}
 use Rattle.std.proofs.lemmas.Bool.{lt-leb}
 use Rattle.isa.specs.Pages.{Entry, entry_at, judged}
-use Rattle.paging.proofs.Laws.{entry_by, judged_within, judged_beyond, judged_ring, judged_refused}
+use Rattle.paging.proofs.Laws.{passed, refused, entry_by, judged_within, judged_beyond, judged_ring, judged_refused}
 use Rattle.paging.proofs.translation.looked_up.Goals as goal
 
--- permitted, the ring allows, and the page lies within the memory
+-- the needed permit is missing
+pub returns-then-not-permitted-clause-value : goal.returns-then-not-permitted-clause-value
+returns-then-not-permitted-clause-value c =
+    let a = c.args in
+    let same = entry_by a.extended a.tables.now a.slot c.first_word-i.ensures.value refl in
+    let n = sym (c.if-not-permitted.ensures (entry_at a.extended a.tables.now a.slot).page) in
+    let w = judged_refused _ a.slot a.words a.ring a.k a.a n in
+    ap refused c.refused.ensures ∙ sym w ∙ ap (λ (e : Entry). judged e a.slot a.words a.ring a.k a.a) same
+
+-- permitted, and the entry's ring is above the user's
+pub returns-then-e-ring-clause-value : goal.returns-then-e-ring-clause-value
+returns-then-e-ring-clause-value c =
+    let a = c.args in
+    let same = entry_by a.extended a.tables.now a.slot c.first_word-i.ensures.value refl in
+    let n = sym (c.if-not-permitted.ensures (entry_at a.extended a.tables.now a.slot).page) in
+    let w = judged_ring _ a.slot a.words a.ring a.k a.a n (lt-leb _ _ c.if-e-ring.true) in
+    simp c.status.ensures (sym w ∙ ap (λ (e : Entry). judged e a.slot a.words a.ring a.k a.a) same)
+
+-- permitted, the ring allows, and the page lies beyond the memory
 pub returns-then-p-words-clause-value : goal.returns-then-p-words-clause-value
 returns-then-p-words-clause-value c =
     let a = c.args in
     let same = entry_by a.extended a.tables.now a.slot c.first_word-i.ensures.value c.page_of.ensures.value in
-    let n = sym (c.permitted.ensures c.page_of.result) ∙ c.if-permitted.true in
-    let w = judged_within _ _ _ _ _ _ n (le-leb _ _ c.if-e-ring.true) (lt-ltb _ _ c.if-p-words.true) in
-    c.in_memory.ensures ∙ sym w ∙ ap (λ (e : Entry). judged e a.slot a.words a.ring a.k a.a) same
-
--- .. and the page lies beyond the memory
-pub returns-then-e-ring-clause-value : goal.returns-then-e-ring-clause-value
-returns-then-e-ring-clause-value c =
-    let a = c.args in
-    let same = entry_by a.extended a.tables.now a.slot c.first_word-i.ensures.value c.page_of.ensures.value in
-    let n = sym (c.permitted.ensures c.page_of.result) ∙ c.if-permitted.true in
-    let w = judged_beyond _ _ _ _ _ _ n (le-leb _ _ c.if-e-ring.true) (le-ltb _ _ c.if-p-words.false) in
+    let n = sym (c.if-not-permitted.ensures c.page_of.result) in
+    let w = judged_beyond _ _ _ _ _ _ n (le-leb _ _ c.if-e-ring.false) (le-ltb _ _ c.if-p-words.true) in
     sym w ∙ ap (λ (e : Entry). judged e a.slot a.words a.ring a.k a.a) same
 
--- permitted, and the entry's ring is above the user's
-pub returns-then-permitted-clause-value : goal.returns-then-permitted-clause-value
-returns-then-permitted-clause-value c =
-    let a = c.args in
-    let same = entry_by a.extended a.tables.now a.slot c.first_word-i.ensures.value refl in
-    let n = sym (c.permitted.ensures (entry_at a.extended a.tables.now a.slot).page) ∙ c.if-permitted.true in
-    let w = judged_ring _ a.slot a.words a.ring a.k a.a n (lt-leb _ _ c.if-e-ring.false) in
-    simp c.status.ensures (sym w ∙ ap (λ (e : Entry). judged e a.slot a.words a.ring a.k a.a) same)
-
--- the needed permit is missing
+-- .. and within it
 pub returns-clause-value : goal.returns-clause-value
 returns-clause-value c =
     let a = c.args in
-    let same = entry_by a.extended a.tables.now a.slot c.first_word-i.ensures.value refl in
-    let n = sym (c.permitted.ensures (entry_at a.extended a.tables.now a.slot).page) ∙ c.if-permitted.false in
-    let w = judged_refused _ a.slot a.words a.ring a.k a.a n in
-    c.refused.ensures ∙ sym w ∙ ap (λ (e : Entry). judged e a.slot a.words a.ring a.k a.a) same
+    let same = entry_by a.extended a.tables.now a.slot c.first_word-i.ensures.value c.page_of.ensures.value in
+    let n = sym (c.if-not-permitted.ensures c.page_of.result) in
+    let w = judged_within _ _ _ _ _ _ n (le-leb _ _ c.if-e-ring.false) (lt-ltb _ _ c.if-p-words.false) in
+    ap passed c.in_memory.ensures ∙ sym w ∙ ap (λ (e : Entry). judged e a.slot a.words a.ring a.k a.a) same

@@ -1,11 +1,11 @@
 -- No permit at all is a page fault.
-use Rattle.std.proofs.Common.{sym, ◌∙◌}
+use Rattle.std.proofs.Common.{sym}
 use Rattle.paging.proofs.translation.refused.Goals as goal
 
 -- some permit is set: a protection fault
 pub returns-then-some_permit : goal.returns-then-some_permit
-returns-then-some_permit c = simp (c.status.ensures, sym (c.some_permit.ensures 0) ∙ c.if-some_permit.true)
+returns-then-some_permit c = simp (c.status.ensures, sym (c.if-some_permit.ensures 0))
 
 -- no permit is set: a page fault
-pub returns : goal.returns
-returns c = simp (c.status-2.ensures, sym (c.some_permit.ensures 0) ∙ c.if-some_permit.false)
+pub returns-else-some_permit : goal.returns-else-some_permit
+returns-else-some_permit c = simp (c.status-else-some_permit.ensures, sym (c.if-some_permit.ensures 0))

@@ -5,6 +5,6 @@ use Rattle.word_class.specs.Classes.{class_of}
 use Rattle.word_class.proofs.Entries.{sorted}
 use Rattle.word_class.proofs.table.table.Goals as goal
 
-pub returns : goal.returns
+pub returns-clause-sorts : goal.returns-clause-sorts
 unfolding class_of by_code
-returns c = (refl, sorted _ refl refl)
+returns-clause-sorts c = sorted _ refl refl

@@ -1,3 +1,0 @@
--- Laws behind the functions' proofs.
-pub mod Laws
-pub mod ExrRow

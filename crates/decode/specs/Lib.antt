@@ -1,2 +1,0 @@
--- EXR, for the stage that follows it.
-pub mod Exr
