@@ -10,11 +10,12 @@ use isa::access::Fault;
 use isa::instruction::System;
 use isa::machine::File;
 
-// How an instruction ended otherwise than well: by an access that failed; with the error interrupt, 5; with a
-// privileged instruction, on a ring that may execute it or on one that may not (6); with MON; or with an illegal code.
+// How an instruction ended otherwise than well: by an access that failed, of which it has the fault; with the error
+// interrupt, 5; with a privileged instruction, on a ring that may execute it or on one that may not (6); with MON; or
+// with an illegal code.
 #[derive(Clone, Copy)]
 pub enum Event {
-    Failed(Fault),
+    Failed(Option<Fault>),
     Error,
     Privileged(System),
     NotPrivileged,
@@ -47,18 +48,18 @@ pub fn done(f: File, made: u32) -> Ending
     }
 }
 
-pub fn with_event(f: File, e: Event) -> Ending
-    ensures { result ≡ record { references = 0; event = Some e; file = f } }
+pub fn with_event(f: File, e: Option<Event>) -> Ending
+    ensures { result ≡ record { references = 0; event = e; file = f } }
 {
     Ending {
         references: 0,
-        event: Some(e),
+        event: e,
         file: f,
     }
 }
 
-// An access failed; so many were made, it among them.
-pub fn failed(f: File, x: Fault, made: u32) -> Ending
+// An access failed, by its fault; so many were made, it among them.
+pub fn failed(f: File, x: Option<Fault>, made: u32) -> Ending
     ensures { result ≡ record { references = made; event = Some (Failed x); file = f } }
 {
     Ending {

@@ -208,7 +208,7 @@ module _ (c : Core) (m : List ℕ) (k : List ℕ → Completed) (r : Tested) {u 
   unfolding accessed_by
   tested_passed q = rw (q.tables, q.places, q.fault, ← q.made) refl
 
-  tested_failed : {f : Fault} → Stopped r f n u → counted n (failed (next_core c) f m u) ≡ accessed_by c m k r
+  tested_failed : {f : Fault} → Stopped r f n u → counted n (failed (next_core c) (Some f) m u) ≡ accessed_by c m k r
   unfolding accessed_by
   tested_failed q = rw (q.tables, q.fault, ← q.made) refl
 
@@ -244,7 +244,7 @@ module _ (f : File) (m t u : List ℕ) (q : Request) (x : Location) (n : ℕ) (f
 
   -- one failed
   pub fails : {z : Fault} → Stopped asked z n u → {e : Ending}
-      → e ≡ record { references = n; event = Some (Failed z); file = f }
+      → e ≡ record { references = n; event = Some (Failed (Some z)); file = f }
       → Served f q x m t e m u
   unfolding event_part by_privilege
   fails o y = record {

@@ -174,7 +174,7 @@ after_word :
 unfolding indirect_tested after_indirect_word
 after_word c m o md d k h =
     let i = get_or (words_at m k.tables k.places) 0 0 in
-    ap (λ (p : Part). counted k.made (after_test k.fault p (λ x. failed (next_core c) x m k.tables)))
+    ap (λ (p : Part). counted k.made (after_test k.fault p (λ x. failed (next_core c) (Some x) m k.tables)))
     (at_address c m k.tables o md d i (after_indirect md (next c.file) i)
     (sym (simp h at (effective_address_law md d c.file i))))
 
@@ -343,7 +343,7 @@ module _ (f : File) (m t : List ℕ) (a : ℕ) (r : Rights) (o : MemoryOp) (md :
       ∙ ap (addressed c m v o) (sym i)
       ∙ h.1 c o s
 
-  pub memory_failed : (y : Fault) → x ≡ Err y → z ≡ record { references = 1; event = Some (Faulted y); file = f }
+  pub memory_failed : (y : Fault) → x ≡ Err y → z ≡ record { references = 1; event = Some (Faulted (Some y)); file = f }
       → UserStage f a r (Memory o md d) m t z m v
   unfolding addressed event_part by_privilege
   memory_failed y q n l c s = file_left l m v s.executing n ∙ ap (addressed c m v o) (sym q) ∙ h.1 c o s

@@ -48,7 +48,7 @@ unfoldable pub accessed_by : Core → List ℕ → (List ℕ → Completed) → 
 accessed_by c m k r =
     counted r.made
     (after_test r.fault (finished c m r.tables r.places (k (words_at m r.tables r.places)))
-    (λ x. failed (next_core c) x m r.tables))
+    (λ x. failed (next_core c) (Some x) m r.tables))
 
 -- a request at the address a
 abbrev pub requested : Core → List ℕ → List ℕ → Request → Bool → ℕ → Part
@@ -81,4 +81,4 @@ ReadWords x n m t (Err e) u =
 -- the end of a change of a word: the instruction goes on, or an access failed
 abbrev pub after_exchange : File → Change → Result ℕ Failure → Ending
 after_exchange f k (Ok w) = record { references = 2; event = None; file = (change_of k f w).file }
-after_exchange f k (Err e) = record { references = e.made; event = Some (Failed e.fault); file = f }
+after_exchange f k (Err e) = record { references = e.made; event = Some (Failed (Some e.fault)); file = f }

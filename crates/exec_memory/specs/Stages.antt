@@ -1,6 +1,8 @@
 -- The stages of an unprivileged instruction by what the code has in hand: the registers with P one further, the rights,
 -- and the instruction's own address.
 use Rattle.std.specs.Prelude.{ℕ, ◌≤◌, ◌≡◌, true, cond, List, [], ◌∷◌, get_or, length, ℤ}
+use Rattle.std.specs.declared.option.Option.{Option}
+use Rattle.std.specs.declared.option.Option.TheVariants.{None, Some}
 use Rattle.std.specs.declared.result.Result.{Result}
 use Rattle.std.specs.declared.result.Result.TheVariants.{Ok, Err}
 use Rattle.isa.specs.Machine.{reg, next, next_core}
@@ -38,7 +40,7 @@ pub record ExecutingAt (c : Core) (f : File) (a : ℕ) (r : Rights) : Type 0 whe
 -- an operation goes on at its effective address, or the access for the indirect word failed
 unfoldable pub addressed : Core → List ℕ → List ℕ → MemoryOp → Result Effective Fault → Part
 addressed c m t o (Ok e) = counted e.read (requested c m t (request_of o (next c.file)) e.alternate e.address)
-addressed c m t o (Err x) = counted 1 (failed (next_core c) x m t)
+addressed c m t o (Err x) = counted 1 (failed (next_core c) (Some x) m t)
 
 -- "Finding an effective address shall also tell how many words it read (0 or 1)"; a failed access is for one
 abbrev pub words_read : Result Effective Fault → ℕ
@@ -57,7 +59,7 @@ after_indirect_word c m o md r =
     let a = after_indirect md (next c.file) (get_or (words_at m r.tables r.places) 0 0) in
     counted r.made
     (after_test r.fault (requested c m r.tables (request_of o (next c.file)) (address_rule md) a)
-    (λ x. failed (next_core c) x m r.tables))
+    (λ x. failed (next_core c) (Some x) m r.tables))
 
 -- .. and where the mode has an indirect word, at the address a
 abbrev pub ByIndirect : File → Rights → Mode → ℕ → List ℕ → List ℕ → Result Effective Fault → List ℕ → Type 0
@@ -92,3 +94,8 @@ ring_from old ring (StoreTable i) = old
 
 abbrev pub ring_after : Rights → ℕ → Place → ℕ
 ring_after r ring x = cond r.paging (ring_from r.ring ring x) r.ring
+
+-- .. which one that failed leaves
+abbrev pub ring_left : Rights → ℕ → Option Place → ℕ
+ring_left r ring None = r.ring
+ring_left r ring (Some p) = ring_after r ring p

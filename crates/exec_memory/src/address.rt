@@ -33,7 +33,7 @@ fn by_indirect(
     let x = translate(tables, mem.len(), r, AccessKind::Indirect, first_rule(m), a)?;
     Ok(Effective {
         alternate: address_rule(m),
-        address: after_indirect(m, f, word_at(mem, tables, x)),
+        address: after_indirect(m, f, word_at(mem, tables, Some(x))),
         read: 1,
     })
 }

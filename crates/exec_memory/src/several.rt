@@ -32,7 +32,7 @@ fn store_several<const N: usize>(
             store_words(mem, tables, &places, &words);
             done(f, N as u32)
         }
-        Err(e) => failed(f, e.fault, e.made),
+        Err(e) => failed(f, Some(e.fault), e.made),
     }
 }
 
@@ -85,7 +85,7 @@ pub(crate) fn words(
                 ),
                 2,
             ),
-            Err(e) => failed(f, e.fault, e.made),
+            Err(e) => failed(f, Some(e.fault), e.made),
         };
     }
     match read_several::<3>(mem, tables, x) {
@@ -101,6 +101,6 @@ pub(crate) fn words(
             ),
             3,
         ),
-        Err(e) => failed(f, e.fault, e.made),
+        Err(e) => failed(f, Some(e.fault), e.made),
     }
 }

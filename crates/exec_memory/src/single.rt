@@ -18,8 +18,8 @@ pub fn read_word(f: File, mem: &[u16], tables: &mut PageTables, x: Location, k: 
         tables.new }
 {
     match test_word(tables, mem.len(), x, AccessKind::Read) {
-        Ok(p) => done(loaded(k, f, word_at(mem, tables, p)), 1),
-        Err(e) => failed(f, e, 1),
+        Ok(p) => done(loaded(k, f, word_at(mem, tables, Some(p))), 1),
+        Err(e) => failed(f, Some(e), 1),
     }
 }
 
@@ -36,9 +36,9 @@ pub(crate) fn write_word(
 {
     match test_word(tables, mem.len(), x, AccessKind::Write) {
         Ok(p) => {
-            store_at(mem, tables, p, w);
+            store_at(mem, tables, Some(p), w);
             done(f, 1)
         }
-        Err(e) => failed(f, e, 1),
+        Err(e) => failed(f, Some(e), 1),
     }
 }

@@ -28,8 +28,8 @@ fn exchange(
 {
     let from = nth(test_word(tables, mem.len(), x, AccessKind::Read), 1)?;
     let to = nth(test_word(tables, mem.len(), x, AccessKind::Write), 2)?;
-    let w = word_at(mem, tables, from);
-    store_at(mem, tables, to, changed(k, f, w));
+    let w = word_at(mem, tables, Some(from));
+    store_at(mem, tables, Some(to), changed(k, f, w));
     Ok(w)
 }
 
@@ -46,7 +46,7 @@ pub(crate) fn update(
 {
     match exchange(f, mem, tables, x, k) {
         Ok(w) => done(after_change(k, f, w), 2),
-        Err(e) => failed(f, e.fault, e.made),
+        Err(e) => failed(f, Some(e.fault), e.made),
     }
 }
 
@@ -58,6 +58,6 @@ pub fn put_byte(f: File, mem: &mut [u16], tables: &mut PageTables, x: Location) 
 {
     match exchange(f, mem, tables, x, Change::PutByte) {
         Ok(_) => done(f, 2),
-        Err(e) => failed(f, e.fault, e.made),
+        Err(e) => failed(f, Some(e.fault), e.made),
     }
 }

@@ -43,7 +43,7 @@ fn memory_stage(
             };
             after(e.read, serve(f, mem, tables, x, request_of(o, f)))
         }
-        Err(x) => failed(f, x, 1),
+        Err(x) => failed(f, Some(x), 1),
     }
 }
 

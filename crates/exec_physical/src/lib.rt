@@ -95,13 +95,18 @@ pub fn transfer(
     let w = stores(o, f);
     let x = nth(physical_place(extended, mem.len(), kind_of(o), p), 1)?;
     if !two_words(o) {
-        let g = loaded(o, f, word_at(mem, tables, x), 0);
-        store_at(mem, tables, x, w.a);
+        let g = loaded(o, f, word_at(mem, tables, Some(x)), 0);
+        store_at(mem, tables, Some(x), w.a);
         return Ok(g);
     }
     let y = nth(physical_place(extended, mem.len(), kind_of(o), p + 1), 2)?;
-    let g = loaded(o, f, word_at(mem, tables, x), word_at(mem, tables, y));
-    store_at(mem, tables, x, w.a);
-    store_at(mem, tables, y, w.b);
+    let g = loaded(
+        o,
+        f,
+        word_at(mem, tables, Some(x)),
+        word_at(mem, tables, Some(y)),
+    );
+    store_at(mem, tables, Some(x), w.a);
+    store_at(mem, tables, Some(y), w.b);
     Ok(g)
 }

@@ -79,7 +79,7 @@ fn division_fails(f: File) -> Ending
     ensures { result ≡ ending_of (failing f) }
 {
     let sts = with_bit(FLAG_Z, true, f.get(Register::Sts));
-    with_event(f.with(Register::Sts, sts), Event::Error)
+    with_event(f.with(Register::Sts, sts), Some(Event::Error))
 }
 
 // RDIV by d.

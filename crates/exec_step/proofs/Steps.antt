@@ -144,8 +144,8 @@ module _ (f : File) (m t : List ℕ) (r : Rights) (ring : ℕ) (v : List ℕ) wh
   -- it failed
   pub step_failed : (x : Fault) → Fetched f m t r ring (Err x) v → (page : Page)
       → StepOfLevel f r m t
-      (record { file = f; ring = r.ring; page = page; event = Some (Faulted x); references = 1 }) m v
+      (record { file = f; ring = r.ring; page = page; event = Some (Faulted (Some x)); references = 1 }) m v
   unfolding event_part fetched
   step_failed x h page l p k y =
       let own : lowered_pcr p r.ring ≡ p = ap (λ (u : Rights). lowered_pcr p u.ring) (sym y) ∙ same_ring p in
-      ap (λ (u : ℕ). counted 1 (failed (level_core f u k) x m v)) own ∙ fetched_step (Err x) h l p k y
+      ap (λ (u : ℕ). counted 1 (failed (level_core f u k) (Some x) m v)) own ∙ fetched_step (Err x) h l p k y

@@ -88,9 +88,9 @@ fn looked_up(at: u16, r: Rights, mem: &[u16], tables: &mut PageTables) -> Result
 {
     let ring = ring_at(tables, r, at);
     let x = translate(tables, mem.len(), r, AccessKind::Fetch, false, at)?;
-    let q = ring_after(r, ring, x);
+    let q = ring_after(r, ring, Some(x));
     Ok(FetchResult {
-        word: word_at(mem, tables, x),
+        word: word_at(mem, tables, Some(x)),
         ring: q,
         place: x,
         page: page_after(mem.len(), on_ring(r, q), at, x),

@@ -30,10 +30,10 @@ fn instruction_stage(
 {
     match i {
         Instruction::Unprivileged(u) => user_stage(f, at, r, mem, tables, u),
-        Instruction::Privileged(q) => with_event(f, Event::Privileged(q)),
-        Instruction::Execute(_) => with_event(f, Event::Illegal),
-        Instruction::Monitor(n) => with_event(f, Event::Monitor(n)),
-        Instruction::Illegal => with_event(f, Event::Illegal),
+        Instruction::Privileged(q) => with_event(f, Some(Event::Privileged(q))),
+        Instruction::Execute(_) => with_event(f, Some(Event::Illegal)),
+        Instruction::Monitor(n) => with_event(f, Some(Event::Monitor(n))),
+        Instruction::Illegal => with_event(f, Some(Event::Illegal)),
     }
 }
 

@@ -64,7 +64,7 @@ pub fn step_in(f: File, r: Rights, k: Page, mem: &mut [u16], tables: &mut PageTa
             file: f,
             ring: r.ring,
             page: no_page(),
-            event: Some(Event::Failed(x)),
+            event: Some(Event::Failed(Some(x))),
             references: 1,
         },
     }

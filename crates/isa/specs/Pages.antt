@@ -150,26 +150,33 @@ translate t words r x =
     (cond r.paging (judged (entry_at r.extended t i) i words r.ring x.kind a)
     (within_memory words x.kind a))
 
--- the number of the interrupt that a failed access gives; and PGS after it (ruling 2: 9 leaves it)
+-- the number of the interrupt that a failed access gives
 abbrev pub fault_number : Fault → ℕ
 fault_number (Protection g) = interrupt_protection
 fault_number (PageFault g) = interrupt_page_fault
 fault_number OutOfRange = interrupt_out_of_range
 
-abbrev pub pgs_after : ℕ → Fault → ℕ
-pgs_after old (Protection g) = g
-pgs_after old (PageFault g) = g
-pgs_after old OutOfRange = old
+-- .. that an access gives, by its fault: 0 where it passed; and PGS after it (ruling 2: 9 leaves it)
+abbrev pub fault_of : Option Fault → ℕ
+fault_of None = 0
+fault_of (Some f) = fault_number f
+
+abbrev pub pgs_after : ℕ → Option Fault → ℕ
+pgs_after old None = old
+pgs_after old (Some (Protection g)) = g
+pgs_after old (Some (PageFault g)) = g
+pgs_after old (Some OutOfRange) = old
 
 -- "PGS shall keep the first fault" (document 02, card 3): PGS after a fault of status g, by whether the old one is held
 abbrev pub first_status : ℕ → ℕ → ℕ → ℕ
 first_status held old g = cond (held == 1) old g
 
 -- "Whether it is held is control word 26": from the first 2 or 3 on; ruling 41: 9 touches neither
-abbrev pub held_after : ℕ → Fault → ℕ
-held_after held (Protection g) = 1
-held_after held (PageFault g) = 1
-held_after held OutOfRange = held
+abbrev pub held_after : ℕ → Option Fault → ℕ
+held_after held None = held
+held_after held (Some (Protection g)) = 1
+held_after held (Some (PageFault g)) = 1
+held_after held (Some OutOfRange) = held
 
 abbrev pub passes : Result Place Fault → Bool
 passes (Ok p) = true

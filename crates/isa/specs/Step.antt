@@ -14,7 +14,7 @@ use Rattle.isa.specs.Decode.{decode, four_of}
 use Rattle.isa.specs.Address.{sum, access}
 use Rattle.isa.specs.Instructions.{indirect_request, request, complete, operand, Completed}
 use Rattle.isa.specs.System.{highest_in, with_levels, with_pid, with_internal, with_paging_status, controlled}
-use Rattle.isa.specs.Pages.{slot_of, entry_at, translate, marked, test_all, Tested, after_test, fault_number}
+use Rattle.isa.specs.Pages.{slot_of, entry_at, translate, marked, test_all, Tested, after_test, fault_of}
 use Rattle.isa.specs.Pages.{pgs_after, first_status, held_after, word_at, words_at, words_of, store_all, rights_of}
 use Rattle.isa.specs.Pages.{lowered}
 use Rattle.isa.specs.Physical.{transfer_address, transfer_kind, word_addresses, test_physical, transfer_stores}
@@ -105,18 +105,18 @@ gives n c = with_control c (interrupted n c.control)
 
 -- An access that failed. "Interrupts 2 and 3 set PGS" reads since document 02, card 3: "PGS shall keep the first fault
 -- until TRA PGS is executed, and only then take another"; ruling 41: the first 2 or 3 sets PGS and holds it, and while
--- it is held they change neither.
-abbrev pub with_pgs : Control → Fault → Control
+-- it is held they change neither. Without a fault, of an access that passed, neither changes.
+abbrev pub with_pgs : Control → Option Fault → Control
 with_pgs k x =
     with_paging_status k (first_status k.held k.pgs (pgs_after k.pgs x)) (held_after k.held x)
 
-unfoldable pub faulted : Fault → Core → Core
-faulted x c = gives (fault_number x) (with_control c (with_pgs c.control x))
+unfoldable pub faulted : Option Fault → Core → Core
+faulted x c = gives (fault_of x) (with_control c (with_pgs c.control x))
 
 -- "An instruction that faults .. stores nothing and changes no register but P. Fetch faults leave P; all others leave
 -- it one further." c is the core with P where it is left.
-abbrev pub failed : Core → Fault → List ℕ → List ℕ → Part
-failed c x m t = part (faulted x c) (fault_number x) None m t
+abbrev pub failed : Core → Option Fault → List ℕ → List ℕ → Part
+failed c x m t = part (faulted x c) (fault_of x) None m t
 
 -- an interrupt of an instruction that is not by an access; c is the core with P one further
 abbrev pub trapped : ℕ → Core → List ℕ → List ℕ → Part
@@ -141,7 +141,7 @@ unfoldable pub operands_tested : Core → List ℕ → User → ℕ → Tested �
 operands_tested c m u i r =
     counted r.made
     (after_test r.fault (finished c m r.tables r.places (complete u c.file i (words_at m r.tables r.places)))
-    (λ x. failed (next_core c) x m r.tables))
+    (λ x. failed (next_core c) (Some x) m r.tables))
 
 unfoldable pub operands : Core → List ℕ → List ℕ → User → ℕ → Part
 operands c m t u i = operands_tested c m u i (test_all t (length m) (rights_of c) (request u c.file i))
@@ -152,7 +152,7 @@ unfoldable pub indirect_tested : Core → List ℕ → User → Tested → Part
 indirect_tested c m u r =
     counted r.made
     (after_test r.fault (operands c m r.tables u (slice_index (words_at m r.tables r.places) 0))
-    (λ x. failed (next_core c) x m r.tables))
+    (λ x. failed (next_core c) (Some x) m r.tables))
 
 unfoldable pub user_stage : Core → List ℕ → List ℕ → User → Part
 user_stage c m t u = indirect_tested c m u (test_all t (length m) (rights_of c) (indirect_request u c.file))
@@ -170,13 +170,13 @@ examined c m t =
     let p = physical_address c.file in
     counted 1
     (cond (nat_lt p (length m)) (part (with_file c (with_reg c.file T (slice_index m p))) 0 None m t)
-    (failed c OutOfRange m t))
+    (failed c (Some OutOfRange) m t))
 
 unfoldable pub deposited : Core → List ℕ → List ℕ → Part
 deposited c m t =
     let p = physical_address c.file in
     counted 1
-    (cond (nat_lt p (length m)) (part c 0 None (slice_set m p (reg c.file T)) t) (failed c OutOfRange m t))
+    (cond (nat_lt p (length m)) (part c 0 None (slice_set m p (reg c.file T)) t) (failed c (Some OutOfRange) m t))
 
 -- LDATX to STDTX (document 02, card 4), of the displacement d. Ruling R4: both words are tested before a load or a
 -- store takes effect. Without a second word v is 0, and nothing looks at it.
@@ -189,7 +189,8 @@ transfer_stage c m t o d =
     let v = slice_index (words_at m t r.places) 1 in
     let k = store_all m t r.places (words_of (transfer_stores o f)) in
     counted r.made
-    (after_test r.fault (part (with_file c (transferred o f w v)) 0 None k.memory k.tables) (λ x. failed c x m t))
+    (after_test r.fault (part (with_file c (transferred o f w v)) 0 None k.memory k.tables)
+    (λ x. failed c (Some x) m t))
 
 -- Document 02, card 1: "IOX, IOXT and IDENT reach them and interrupt 7 stays for all other addresses and for an IDENT
 -- that no device answers." Ruling 31: with 7 nothing changes but P, IID and PID. Ruling 7.3: device registers are no
@@ -261,7 +262,7 @@ after_fetch c ring (StoreTable i) = c
 unfoldable pub fetched : ℕ → Core → List ℕ → List ℕ → ℕ → Result Place Fault → Part
 fetched l c m t ring (Ok p) =
     counted 1 (instruction_stage l (after_fetch c ring p) m t (instruction_of c (word_at m t p)))
-fetched l c m t ring (Err x) = counted 1 (failed c x m t)
+fetched l c m t ring (Err x) = counted 1 (failed c (Some x) m t)
 
 -- ruling 24: every fetch goes by the normal table, and all accesses of a step by the PTM that it began with
 abbrev pub fetch_of : Core → Access
@@ -337,20 +338,20 @@ put_block s l (r ∷ rs) [] = s
 put_block s l (r ∷ rs) (w ∷ ws) = put_block (put_other s l r w) l rs ws
 
 -- a block's access failed: as any fault of the running level
-abbrev pub block_failed : State → Fault → List ℕ → List ℕ → Turn
-block_failed s x m t = turn (with_core s (faulted x (core_of s))) (fault_number x) m t
+abbrev pub block_failed : State → Option Fault → List ℕ → List ℕ → Turn
+block_failed s x m t = turn (with_core s (faulted x (core_of s))) (fault_of x) m t
 
 unfoldable pub block_stored : State → ℕ → List ℕ → Tested → Turn
 block_stored s l m r =
     let k = store_all m r.tables r.places (block_words s l block_order) in
     counted_turn r.made
-    (after_test r.fault (turn s 0 k.memory k.tables) (λ x. block_failed s x m r.tables))
+    (after_test r.fault (turn s 0 k.memory k.tables) (λ x. block_failed s (Some x) m r.tables))
 
 unfoldable pub block_loaded : State → ℕ → List ℕ → Tested → Turn
 block_loaded s l m r =
     counted_turn r.made
     (after_test r.fault (turn (put_block s l block_order (words_at m r.tables r.places)) 0 m r.tables)
-    (λ x. block_failed s x m r.tables))
+    (λ x. block_failed s (Some x) m r.tables))
 
 abbrev pub block_tested : AccessKind → State → List ℕ → List ℕ → Tested
 block_tested k s m t = test_all t (length m) (rights_of (core_of s)) (block_request k s)

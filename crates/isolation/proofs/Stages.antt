@@ -98,10 +98,10 @@ module _ (form : Bool) (t₀ : List ℕ) (a b ρ : ℕ) where
     alternate = h.alternate;
   }
 
-  faulted_held : (x : Fault) (c : Core) → Held form t₀ a b ρ c → Held form t₀ a b ρ (faulted x c)
+  faulted_held : (x : Fault) (c : Core) → Held form t₀ a b ρ c → Held form t₀ a b ρ (faulted (Some x) c)
   unfolding faulted
   faulted_held x c h =
-      gives_held (fault_number x) (with_control c (with_pgs c.control x))
+      gives_held (fault_number x) (with_control c (with_pgs c.control (Some x)))
       (record {
         paging_on = h.paging_on;
         entries = h.entries;
@@ -177,8 +177,8 @@ module _ (form : Bool) (t₀ : List ℕ) (a b ρ : ℕ) where
     }
 
     failed_even : (t : List ℕ) (c : Core) (x : Fault) → Marked form t t₀ → Held form t₀ a b ρ c
-        → Even m n (failed c x m t) (failed c x n t)
-    failed_even t c x hm hc = quiet t (faulted x c) (fault_number x) None hm (faulted_held x c hc) tt
+        → Even m n (failed c (Some x) m t) (failed c (Some x) n t)
+    failed_even t c x hm hc = quiet t (faulted (Some x) c) (fault_number x) None hm (faulted_held x c hc) tt
 
     trapped_even : (t : List ℕ) (k : ℕ) (c : Core) → Marked form t t₀ → Held form t₀ a b ρ c
         → Even m n (trapped k c m t) (trapped k c n t)

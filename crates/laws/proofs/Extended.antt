@@ -29,7 +29,7 @@ use Rattle.isa.specs.declared.instruction.ControlOp.TheVariants.{Sex, Rex}
 use Rattle.isa.specs.declared.instruction.System.{System}
 use Rattle.isa.specs.declared.instruction.System.TheVariants.{Control as ControlOf}
 use Rattle.isa.specs.declared.access.Fault.{Fault}
-use Rattle.std.specs.declared.option.Option.TheVariants.{None}
+use Rattle.std.specs.declared.option.Option.TheVariants.{None, Some}
 use Rattle.isa.proofs.Tests.{either, decided, no_both}
 use Rattle.laws.specs.Statement.{fetch_outcome, fetch_ring, fetched_core, fetched_tables, Executes}
 use Rattle.laws.specs.Statement.{ExtendedStays, LowRingKeepsExtended, LowRingRunKeepsExtended}
@@ -124,10 +124,10 @@ interrupted_low : (k₀ : Control) (n : ℕ) (k : Control) → LowControl k₀ k
 unfolding interrupted
 interrupted_low k₀ n k h = either (LowControl k₀) (eqb (bit n k.iie) 1) h h
 
-faulted_low : (k₀ : Control) (y : Fault) (c : Core) → Low k₀ c → Low k₀ (faulted y c)
+faulted_low : (k₀ : Control) (y : Fault) (c : Core) → Low k₀ c → Low k₀ (faulted (Some y) c)
 unfolding faulted
 faulted_low k₀ y c h =
-    record { ring = h.ring; control = interrupted_low k₀ (fault_number y) (with_pgs c.control y) h.control }
+    record { ring = h.ring; control = interrupted_low k₀ (fault_number y) (with_pgs c.control (Some y)) h.control }
 
 low_keeping : (k₀ : Control) → Keeping (Low k₀) (LowState k₀) (λ n. Unit {0})
 low_keeping k₀ = record {

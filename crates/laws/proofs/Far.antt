@@ -22,7 +22,7 @@ use Rattle.isa.proofs.Tests.{either, by_fault}
 -- K is kept by new registers and new PCRs, and by a block's fault where F holds of its number
 module _ (K : State → Type 0) (F : ℕ → Type 0) (regs : (s : State) (b : List ℕ) → K s → K (with_regs s b))
     (pcrs : (s : State) (p : List ℕ) → K s → K (with_pcrs s p))
-    (fault : (s : State) (x : Fault) → K s → F (fault_number x) → K (with_core s (faulted x (core_of s)))) where
+    (fault : (s : State) (x : Fault) → K s → F (fault_number x) → K (with_core s (faulted (Some x) (core_of s)))) where
   -- .. so by a step, where F holds of what it gave
   abbrev Keeps : Turn → Type 0
   Keeps r = F r.gave → K r.state

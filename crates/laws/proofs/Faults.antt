@@ -101,7 +101,7 @@ module _ (K : List ℕ → Type 0) (flag : ℕ) (mark : Lasting (eqb flag 1) K) 
 
   module _ (m : List ℕ) where
     -- a fault by an access, and one that is not
-    failed_leaves : (c : Core) (x : Fault) (t : List ℕ) → K t → Leaves c.file m (failed c x m t)
+    failed_leaves : (c : Core) (x : Fault) (t : List ℕ) → K t → Leaves c.file m (failed c (Some x) m t)
     unfolding faulted
     failed_leaves c x t h e = record { file = refl; memory = refl; tables = h }
 
@@ -243,7 +243,7 @@ module _ (K : List ℕ → Type 0) (flag : ℕ) (mark : Lasting (eqb flag 1) K) 
 
   -- a block: an access failed, and the running level's words, taken out, are put back as they are; or there is no fault
   module _ (s : State) (m : List ℕ) (l : s.level < level_count) (n : length s.regs ≡ register_words) where
-    block_keeps : (x : Fault) (t : List ℕ) → K t → Keeps s.regs m (block_failed s x m t)
+    block_keeps : (x : Fault) (t : List ℕ) → K t → Keeps s.regs m (block_failed s (Some x) m t)
     unfolding faulted
     block_keeps x t h e = record { regs = put_take s.regs s.level l n; memory = refl; tables = h }
 

@@ -20,7 +20,7 @@ use Rattle.isa.specs.declared.instruction.User.{User}
 use Rattle.isa.specs.declared.instruction.System.{System}
 use Rattle.isa.specs.declared.instruction.Instruction.{Instruction}
 use Rattle.isa.specs.declared.instruction.Instruction.TheVariants.{Unprivileged, Privileged, Execute, Monitor, Illegal}
-use Rattle.std.specs.declared.option.Option.TheVariants.{None}
+use Rattle.std.specs.declared.option.Option.TheVariants.{None, Some}
 use Rattle.std.specs.declared.result.Result.{Result}
 use Rattle.std.specs.declared.result.Result.TheVariants.{Ok, Err}
 use Rattle.isa.specs.declared.access.Place.{Place}
@@ -34,7 +34,7 @@ use Rattle.laws.specs.Statement.{fetch_outcome, fetch_ring, after_outcome, fetch
 pub record Keeping (In : Core → Type 0) (K : State → Type 0) (F : ℕ → Type 0) : Type 0 where
   pub file : (c : Core) (f : File) → In c → In (with_file c f)
   pub trap : (n : ℕ) (c : Core) → In c → In (gives n c)
-  pub fail : (x : Fault) (c : Core) → In c → F (fault_number x) → In (faulted x c)
+  pub fail : (x : Fault) (c : Core) → In c → F (fault_number x) → In (faulted (Some x) c)
   pub back : (s : State) (c : Core) → In c → K (with_core s c)
   pub regs : (s : State) (b : List ℕ) → K s → K (with_regs s b)
 
@@ -56,9 +56,9 @@ module _ (In : Core → Type 0) (K : State → Type 0) (F : ℕ → Type 0) (kee
   pub trapped_keeps : (n : ℕ) (c : Core) (m t : List ℕ) → In c → Claim (trapped n c m t)
   trapped_keeps n c m t h = done_keeps (gives n c) n m t (keep.trap n c h)
 
-  pub failed_keeps : (c : Core) (x : Fault) (m t : List ℕ) → In c → Claim (failed c x m t)
+  pub failed_keeps : (c : Core) (x : Fault) (m t : List ℕ) → In c → Claim (failed c (Some x) m t)
   unfolding settled far_stage
-  failed_keeps c x m t h s f = keep.back s (faulted x c) (keep.fail x c h f)
+  failed_keeps c x m t h s f = keep.back s (faulted (Some x) c) (keep.fail x c h f)
 
   -- ---- an unprivileged instruction
 

@@ -4,6 +4,8 @@ use Prim.Native.Nat.{ℕ}
 use native.Mathlib.Omega.{arith}
 use mathlib.Core.Path.{◌≡◌, refl, sym, ap, subst, ◌∙◌}
 use mathlib.Core.List.{List}
+use Rattle.std.specs.declared.option.Option.{Option}
+use Rattle.std.specs.declared.option.Option.TheVariants.{None, Some}
 use lib.Dec.{eqb}
 use borrow.Author.Tests.{eq-eqb, ne_eqb}
 use Rattle.isa.specs.Machine.{control_of, core_of}
@@ -30,10 +32,11 @@ use Rattle.laws.proofs.Steady.{Steady, step_steady, run_steady}
 
 -- ---- an access that fails
 
-held_stays : {n : ℕ} → n ≡ 1 → (x : Fault) → held_after n x ≡ n
-held_stays h (Protection g) = sym h
-held_stays h (PageFault g) = sym h
-held_stays h OutOfRange = refl
+held_stays : {n : ℕ} → n ≡ 1 → (x : Option Fault) → held_after n x ≡ n
+held_stays h None = refl
+held_stays h (Some (Protection g)) = sym h
+held_stays h (Some (PageFault g)) = sym h
+held_stays h (Some OutOfRange) = refl
 
 pub first_fault_held : FirstFaultHeld
 first_fault_held k g h = rw (ne_eqb k.held 1 (λ e. omega (arith, h, e))) (refl, refl)
@@ -51,7 +54,7 @@ abbrev IsRead : System → Type 0
 IsRead o = o ≡ ControlOf (Tra Pgs)
 
 status_steady : (k₀ : Control) (F : ℕ → Type 0)
-    → ((k : Control) (x : Fault) → SameStatus k₀ k → F (fault_number x) → SameStatus k₀ (with_pgs k x))
+    → ((k : Control) (x : Fault) → SameStatus k₀ k → F (fault_number x) → SameStatus k₀ (with_pgs k (Some x)))
     → Steady (SameStatus k₀) IsRead F
 status_steady k₀ F leaves = record {
   switches = λ k i p h q. q;
@@ -72,7 +75,7 @@ none_read {s} {m} {t} none o e x = none (subst (λ (p : System). Executes p s m 
 held_steady : (k₀ : Control) → k₀.held ≡ 1 → Steady (SameStatus k₀) IsRead (λ n. Unit {0})
 held_steady k₀ h =
     status_steady k₀ (λ n. Unit {0})
-    (λ k x i f. subst (SameStatus k₀) (sym (held_fault_stays k x (i.1 ∙ h))) i)
+    (λ k x i f. subst (SameStatus k₀) (sym (held_fault_stays k (Some x) (i.1 ∙ h))) i)
 
 pub held_status_stays : HeldStatusStays
 held_status_stays s m t h none =
@@ -84,15 +87,15 @@ abbrev NeitherFault : ℕ → Type 0
 NeitherFault n = (n ≡ 2 → ⊥) × (n ≡ 3 → ⊥)
 
 others_leave : (k₀ k : Control) (x : Fault) → SameStatus k₀ k → NeitherFault (fault_number x)
-    → SameStatus k₀ (with_pgs k x)
+    → SameStatus k₀ (with_pgs k (Some x))
 others_leave k₀ k x i f = (either (λ (g : ℕ). g ≡ k₀.pgs) (eqb k.held 1) i.0 (status x f), held x f)
   where
-    status : (x : Fault) → NeitherFault (fault_number x) → pgs_after k.pgs x ≡ k₀.pgs
+    status : (x : Fault) → NeitherFault (fault_number x) → pgs_after k.pgs (Some x) ≡ k₀.pgs
     status (Protection g) f = absurd (f.0 refl)
     status (PageFault g) f = absurd (f.1 refl)
     status OutOfRange f = i.0
 
-    held : (x : Fault) → NeitherFault (fault_number x) → held_after k.held x ≡ k₀.held
+    held : (x : Fault) → NeitherFault (fault_number x) → held_after k.held (Some x) ≡ k₀.held
     held (Protection g) f = absurd (f.0 refl)
     held (PageFault g) f = absurd (f.1 refl)
     held OutOfRange f = i.1

@@ -68,7 +68,7 @@ pub record Steady (K : Control → Type 0) (Sets : System → Type 0) (F : ℕ �
   pub switches : (k : Control) (i p h : ℕ) → K k → K (with_switches k i p h)
   pub levels : (k : Control) (d e v : ℕ) → K k → K (with_levels k d e v)
   pub internal : (k : Control) (d e : ℕ) → K k → K (with_internal k d e)
-  pub fail : (k : Control) (x : Fault) → K k → F (fault_number x) → K (with_pgs k x)
+  pub fail : (k : Control) (x : Fault) → K k → F (fault_number x) → K (with_pgs k (Some x))
   pub reading : (k : Control) → (Sets (ControlOf (Tra Pgs)) → ⊥) → K k → K (with_paging_status k k.pgs 0)
   pub setting : (k : Control) → (Sets (ControlOf Sex) → ⊥) → K k → K (with_extended k 1)
   pub clearing : (k : Control) → (Sets (ControlOf Rex) → ⊥) → K k → K (with_extended k 0)
@@ -89,9 +89,9 @@ module _ (K : Control → Type 0) (Sets : System → Type 0) (F : ℕ → Type 0
       let d = keep.internal k (with_bit n 1 k.iid) k.iie h in
       either K (eqb (bit n k.iie) 1) (keep.levels _ _ _ _ d) d
 
-  faulted_keeps : (x : Fault) (c : Core) → In c → F (fault_number x) → In (faulted x c)
+  faulted_keeps : (x : Fault) (c : Core) → In c → F (fault_number x) → In (faulted (Some x) c)
   unfolding faulted
-  faulted_keeps x c h f = interrupted_keeps (fault_number x) (with_pgs c.control x) (keep.fail c.control x h f)
+  faulted_keeps x c h f = interrupted_keeps (fault_number x) (with_pgs c.control (Some x)) (keep.fail c.control x h f)
 
   keeping : Keeping In Of F
   keeping = record {

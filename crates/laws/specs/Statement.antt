@@ -1,7 +1,7 @@
 -- What document 01, and document 02 after it, says of a step, a run and a view that follows from their definitions:
 -- each law under its sentence.
 use Rattle.isa.specs.Machine.{word_range, level_count, register_words, control_of}
-use Rattle.std.specs.Prelude.{ℕ, zero, suc, ◌+◌, ◌<◌, ◌≤◌, ◌≡◌, Bool, true, false, cond, ◌||◌, List, [], get_or, set, length, eqb}
+use Rattle.std.specs.Prelude.{ℕ, zero, suc, ◌+◌, ◌<◌, ◌≤◌, ◌≡◌, Bool, true, false, cond, ◌||◌, List, [], get_or, set, length, eqb, Option, Some}
 use Rattle.isa.specs.Machine.{bit, flag_of, reg, core_of, ring_of, normal_table_of, Typed, sizes_fit, in_range}
 use Rattle.isa.specs.Address.{sum, access}
 use Rattle.isa.specs.System.{with_paging_status, with_extended}
@@ -152,11 +152,12 @@ SameStatus k q = (q.pgs ≡ k.pgs) × (q.held ≡ k.held)
 abbrev pub FirstFaultHeld : Type 0
 FirstFaultHeld =
     (k : Control) (g : ℕ) → k.held ≡ 0
-    → (with_pgs k (Protection g) ≡ with_paging_status k g 1) × (with_pgs k (PageFault g) ≡ with_paging_status k g 1)
+    → (with_pgs k (Some (Protection g)) ≡ with_paging_status k g 1)
+    × (with_pgs k (Some (PageFault g)) ≡ with_paging_status k g 1)
 
--- .. and while it is held, an access that fails changes neither
+-- .. and while it is held, an access changes neither, whether it fails or passes
 abbrev pub HeldFaultStays : Type 0
-HeldFaultStays = (k : Control) (x : Fault) → k.held ≡ 1 → with_pgs k x ≡ k
+HeldFaultStays = (k : Control) (x : Option Fault) → k.held ≡ 1 → with_pgs k x ≡ k
 
 -- no step but one that executes TRA PGS changes a held PGS or word 26, whatever else it does
 abbrev pub HeldStatusStays : Type 0

@@ -153,15 +153,15 @@ module _ (l : ℕ) (c : Core) (q : AccessKind) (b m t d u p : List ℕ) (k : len
     fault_here = ap (λ (v : Tested). v.fault) (tested_here x.level x.registers) ∙ x.outcome.0
 
     abbrev left : Core
-    left = faulted e.fault c
+    left = faulted (Some e.fault) c
 
-    failed_here : turn (pack l left d p) (fault_number e.fault) m u ≡ block_failed state e.fault m test.tables
+    failed_here : turn (pack l left d p) (fault_number e.fault) m u ≡ block_failed state (Some e.fault) m test.tables
     failed_here =
         let z = ap (λ (v : Tested). v.tables) (tested_here x.level x.registers) ∙ sym x.tables in
         let opened = open_pack l c b p x.level x.registers k in
         ap (λ (s : State). turn s (fault_number e.fault) m u) (put_back x.put x.level x.registers left)
-        ∙ sym ((λ i. block_failed state e.fault m (z i))
-        ∙ ap (λ (v : Core). turn (with_core state (faulted e.fault v)) (fault_number e.fault) m u) opened
+        ∙ sym ((λ i. block_failed state (Some e.fault) m (z i))
+        ∙ ap (λ (v : Core). turn (with_core state (faulted (Some e.fault) v)) (fault_number e.fault) m u) opened
         ∙ ap (λ (s : State). turn s (fault_number e.fault) m u) (pack_pack l c b p x.level x.registers k left))
 
     pub not_moved : (y : Advanced) (j : ℕ) → y ≡ leaving l j left e.made (fault_number e.fault)

@@ -2,6 +2,7 @@
 ghost use Rattle.isa.specs.Machine.{level_count};
 ghost use Rattle.std.specs.Prelude.{◌≡◌, cond, List, ℕ, ◌<◌, length};
 ghost use Rattle.isa.specs.Machine.{reg, pack};
+ghost use Rattle.std.specs.declared.option.Option.TheVariants.{Some};
 ghost use Rattle.isa.specs.Pages.{fault_number};
 ghost use Rattle.isa.specs.Step.{faulted, with_regs, block_order, put_block, block_tested, block_stored};
 ghost use Rattle.isa.specs.Step.{block_loaded};
@@ -80,11 +81,11 @@ fn put_block(level: u16, regs: &mut RegisterWords, l: u16, w: File)
 
 // An access of the block failed, the last that was made: the fault is the running level's.
 fn block_failed(level: u16, before: u64, c: Core, e: Failure) -> Advanced
-    ensures { result ≡ leaving level before (faulted e.fault c) e.made (fault_number e.fault) }
+    ensures { result ≡ leaving level before (faulted (Some e.fault) c) e.made (fault_number e.fault) }
 {
     Advanced {
         level,
-        core: faulted(e.fault, c),
+        core: faulted(Some(e.fault), c),
         before,
         references: e.made as u64,
         gave: fault_number(e.fault),

@@ -2,11 +2,10 @@
 ghost use Rattle.std.specs.Prelude.{◌≡◌, length};
 ghost use Rattle.isa.specs.Pages.{words_at, store_all, lent};
 ghost use Rattle.paging.specs.Within.{AllWithin};
-ghost use Rattle.memory_words.specs.Accesses.{AllStoring};
 
 use isa::access::Place;
 use isa::machine::PageTables;
-use paging::place::{store_at, word_at};
+use paging::place::{is_store, store_at, word_at};
 
 // The words at the places.
 #[tactic(auto, using(std::proofs::lemmas::List::take_more_set))]
@@ -16,12 +15,12 @@ pub fn read_words<const N: usize>(mem: &[u16], tables: &PageTables, places: &[Pl
 {
     let mut words = [0; N];
     for (i, x) in places.iter().enumerate() {
-        words[i] = word_at(mem, tables, *x);
+        words[i] = word_at(mem, tables, Some(*x));
     }
     words
 }
 
-// The words are stored at the places, all of which are to store to.
+// The words are stored at the places to store to, in order.
 pub fn store_words<const N: usize>(
     mem: &mut [u16],
     tables: &mut PageTables,
@@ -29,11 +28,14 @@ pub fn store_words<const N: usize>(
     words: &[u16; N],
 )
     requires all_within { AllWithin (length mem.old) places.now }
-    requires all_storing { AllStoring places.now }
     ensures { lent mem.new tables.new
         ≡ store_all mem.old tables.old places.now words.now }
 {
-    for (i, x) in places.iter().enumerate() {
-        store_at(mem, tables, *x, words[i]);
+    let mut next = 0;
+    for x in places.iter() {
+        store_at(mem, tables, Some(*x), words[next]);
+        if is_store(Some(*x)) {
+            next += 1;
+        }
     }
 }

@@ -150,7 +150,7 @@ counted_turn_fits n h = record { state = h.state; lent = h.lent }
 
 -- a block's access that failed
 block_failed_fits : {s : State} → StateFits s → (x : Fault) (m t : List ℕ) → FaultFits x
-    → LentFits m t → TurnFits (block_failed s x m t)
+    → LentFits m t → TurnFits (block_failed s (Some x) m t)
 block_failed_fits h x m t f k = record { state = with_core_fits h (faulted_fits x f (core_fits h)); lent = k }
 
 -- SRB, with the tables after the block's tests and their first fault

@@ -113,7 +113,7 @@ physical_fits form words k p =
     either OutcomeFits (leb (window_start form) p && ltb p word_range) tt (within_fits words k p)
 
 -- PGS after an access that failed
-after_fits : {g : ℕ} → PgsFits g → (x : Fault) → FaultFits x → PgsFits (pgs_after g x)
+after_fits : {g : ℕ} → PgsFits g → (x : Fault) → FaultFits x → PgsFits (pgs_after g (Some x))
 after_fits h (Protection g) f = f
 after_fits h (PageFault g) f = f
 after_fits h OutOfRange f = h
@@ -123,7 +123,7 @@ first_fits : (held : ℕ) {old g : ℕ} → PgsFits old → PgsFits g → PgsFit
 first_fits held a b = either PgsFits (eqb held 1) a b
 
 -- whether PGS is held then
-held_fits : {old : ℕ} → old < 2 → (x : Fault) → held_after old x < 2
+held_fits : {old : ℕ} → old < 2 → (x : Fault) → held_after old (Some x) < 2
 held_fits h (Protection g) = omega arith
 held_fits h (PageFault g) = omega arith
 held_fits h OutOfRange = h
@@ -135,7 +135,7 @@ fault_below (PageFault g) = (omega arith, omega arith)
 fault_below OutOfRange = (omega arith, omega arith)
 
 -- the core after it
-pub faulted_fits : (x : Fault) {c : Core} → FaultFits x → CoreFits c → CoreFits (faulted x c)
+pub faulted_fits : (x : Fault) {c : Core} → FaultFits x → CoreFits c → CoreFits (faulted (Some x) c)
 unfolding faulted
 faulted_fits x {c} f q =
     let k = q.control in

@@ -73,7 +73,7 @@ counted_fits n h = record { core = h.core; far = h.far; lent = h.lent }
 
 -- an access that failed
 failed_fits : {c : Core} → CoreFits c → (x : Fault) (m t : List ℕ) → FaultFits x → LentFits m t
-    → PartFits (failed c x m t)
+    → PartFits (failed c (Some x) m t)
 failed_fits h x m t f k = record { core = faulted_fits x f h; far = tt; lent = k }
 
 -- an interrupt that is not by an access

@@ -95,11 +95,11 @@ module _ (c : Core) (m t : List ℕ) (o : Transfer) (d : ℕ) where
       (part ((e ∙ ap (with_file c) h.file) i) 0 None (h.stored i).memory (h.stored i).tables))
 
   pub transfer_failed : (e : Failure) (m' t' : List ℕ) → Stopped m t tested e m' t'
-      → counted e.made (failed c e.fault m' t') ≡ transfer_stage c m t o d
+      → counted e.made (failed c (Some e.fault) m' t') ≡ transfer_stage c m t o d
   unfolding transfer_stage
   transfer_failed e m' t' h =
       rw (h.fault, h.made)
-      (λ i. counted e.made (failed c e.fault (h.stored i).memory (h.stored i).tables))
+      (λ i. counted e.made (failed c (Some e.fault) (h.stored i).memory (h.stored i).tables))
 
 -- ---- what the devices answered, of a core c whose word in A is a
 

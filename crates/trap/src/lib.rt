@@ -23,7 +23,7 @@ use isa::constant::{
 };
 use isa::instruction::{System, Transfer};
 use isa::machine::{Control, Core, PageTables, Register};
-use paging::place::{fault_number, first_status, held_after, pgs_after, store_at, word_at};
+use paging::place::{fault_of, first_status, held_after, pgs_after, store_at, word_at};
 use paging::translation::physical;
 
 // Whatever memory and tables hold.
@@ -49,21 +49,21 @@ fn counted(n: u32, r: Near) -> Near
     }
 }
 
-// A failed access: 2 and 3 set PGS and hold it, unless it is held.
+// An access: 2 and 3 set PGS and hold it, unless it is held; one that passed changes neither.
 #[tactic(auto, unfolding(isa::specs::Step::faulted))]
-pub fn faulted(x: Fault, c: Core) -> Core
+pub fn faulted(x: Option<Fault>, c: Core) -> Core
     ensures { result ≡ faulted x c }
 {
     let mut k = c.control;
     k.pgs = first_status(k.held, k.pgs, pgs_after(k.pgs, x));
     k.held = held_after(k.held, x);
-    gives(fault_number(x), c.with_control(k))
+    gives(fault_of(x), c.with_control(k))
 }
 
-fn failed(c: Core, x: Fault) -> Near
+fn failed(c: Core, x: Option<Fault>) -> Near
     ensures { (m t : List ℕ) → near_part result m t ≡ failed c x m t }
 {
-    left(faulted(x, c), fault_number(x), None)
+    left(faulted(x, c), fault_of(x), None)
 }
 
 fn trapped(n: u16, c: Core) -> Near
@@ -88,10 +88,10 @@ fn examined(c: Core, mem: &[u16], tables: &PageTables) -> Near
 {
     match physical(mem.len(), AccessKind::Read, physical_address(c)) {
         Ok(from) => {
-            let f = c.file.with(Register::T, word_at(mem, tables, from));
+            let f = c.file.with(Register::T, word_at(mem, tables, Some(from)));
             counted(1, left(c.with_file(f), 0, None))
         }
-        Err(e) => counted(1, failed(c, e)),
+        Err(e) => counted(1, failed(c, Some(e))),
     }
 }
 
@@ -101,10 +101,10 @@ fn deposited(c: Core, mem: &mut [u16], tables: &mut PageTables) -> Near
 {
     match physical(mem.len(), AccessKind::Write, physical_address(c)) {
         Ok(to) => {
-            store_at(mem, tables, to, c.file.get(Register::T));
+            store_at(mem, tables, Some(to), c.file.get(Register::T));
             counted(1, left(c, 0, None))
         }
-        Err(x) => counted(1, failed(c, x)),
+        Err(x) => counted(1, failed(c, Some(x))),
     }
 }
 
@@ -115,7 +115,7 @@ fn transferred(c: Core, mem: &mut [u16], tables: &mut PageTables, o: Transfer, d
 {
     match transfer(c.file, c.control.extended == 1, mem, tables, o, d) {
         Ok(f) => counted(words_of(o), left(c.with_file(f), 0, None)),
-        Err(e) => counted(e.made, failed(c, e.fault)),
+        Err(e) => counted(e.made, failed(c, Some(e.fault))),
     }
 }
 

@@ -3,4 +3,4 @@ use Rattle.std.proofs.Common.{◌∙◌}
 use Rattle.trap.proofs.failed.Goals as goal
 
 pub returns : goal.returns
-returns c = λ m t. c.left.ensures m t ∙ simp (c.fault_number.ensures, c.faulted.ensures)
+returns c = λ m t. c.left.ensures m t ∙ simp (c.fault_of.ensures, c.faulted.ensures)

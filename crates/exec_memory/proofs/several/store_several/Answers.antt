@@ -1,22 +1,10 @@
 -- One access fails, or all pass and the words are stored.
-use Rattle.std.proofs.Common.{List, length, sym, subst, arith}
+use Rattle.std.proofs.Common.{List, length, sym, subst}
 use Rattle.isa.specs.declared.access.AccessKind.TheVariants.{Write}
-use Rattle.memory_words.proofs.StoreLaws.{all_stored}
-use Rattle.memory_words.specs.Accesses.{AllStoring}
 use Rattle.isa.specs.Pages.{test_all}
 use Rattle.isa.specs.declared.access.Access.{Access}
 use Rattle.exec_memory.proofs.RequestLaws.{Passed, Stopped, all_passed, one_stopped, made_few, stores, fails}
 use Rattle.exec_memory.proofs.several.store_several.Goals as goal
-
--- a write that passed goes to a place to store to
-pub store_words-requires : goal.store_words-requires
-store_words-requires g c =
-    let a = c.args in
-    let stored = subst AllStoring c.in-Ok.ensures.outcome.1
-    (all_stored a.tables.now (length a.mem.now) a.x.rights a.x.alternate a.x.address g.row.N) in (
-      omega (arith, c.requires.few),
-      (omega (arith, c.requires.few), (c.in-Ok.ensures.within, stored)),
-    )
 
 -- all passed
 pub returns-in-Ok : goal.returns-in-Ok
