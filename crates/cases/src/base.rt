@@ -2,7 +2,6 @@
 ghost use Rattle.std.specs.Prelude.{◌<◌};
 
 use isa::constant::{FILE_SIZE, FIRST_DEVICE, PAGE_WORDS, REGISTER_WORDS, STATE_WORDS};
-use std::alloc::{AllocError, Global};
 use std::array;
 
 // The two machines that cases start from: in 19-bit mode, or in extended mode.
@@ -80,19 +79,16 @@ fn table_word(mode: PagingMode, memory_words: usize, i: usize) -> u16 {
     }
 }
 
-// So many words of the pattern: the base machine's memory.
-pub(crate) fn patterned(alloc: Global, words: usize) -> Result<Vec<u16>, AllocError> {
-    (0..words).map(pattern).collect(alloc)
+// The pattern's words: the base machine's memory.
+pub(crate) fn fill_pattern(words: &mut [u16]) {
+    for (i, word) in words.iter_mut().enumerate() {
+        *word = pattern(i);
+    }
 }
 
-// So many words of page tables, beside so many words of memory.
-pub(crate) fn base_tables(
-    alloc: Global,
-    mode: PagingMode,
-    memory_words: usize,
-    words: usize,
-) -> Result<Vec<u16>, AllocError> {
-    (0..words)
-        .map(|i| table_word(mode, memory_words, i))
-        .collect(alloc)
+// The words of page tables, beside so many words of memory.
+pub(crate) fn fill_tables(mode: PagingMode, memory_words: usize, words: &mut [u16]) {
+    for (i, word) in words.iter_mut().enumerate() {
+        *word = table_word(mode, memory_words, i);
+    }
 }

@@ -1,5 +1,5 @@
 // The machine of a case: what its operations tell, and the line that answers the case.
-use crate::base::{PagingMode, base_tables, patterned, state_words};
+use crate::base::{PagingMode, fill_pattern, fill_tables, state_words};
 use crate::case::Case;
 use crate::checksum::Checksum;
 use crate::told::Told;
@@ -10,19 +10,13 @@ use isa::constant::{FILE_SIZE, LEVEL_COUNT, PAGE_WORDS, STATE_WORDS};
 use isa::device::DeviceWords;
 use isa::machine::State;
 use isa::number::{answer_number, character_sent_of};
-use std::alloc::{AllocError, Global};
 use std::io;
 
-// The most words of memory and of page tables that a case is lent.
-const MOST_MEMORY: usize = 525312;
-
-const MOST_TABLES: usize = 1024;
-
 #[derive(Drop)]
-pub(crate) struct Machine {
+pub(crate) struct Machine<'a> {
     state: State,
-    memory: Vec<u16>,
-    tables: Vec<u16>,
+    memory: &'a mut [u16],
+    tables: &'a mut [u16],
 }
 
 // Changes a word, where there is one.
@@ -51,34 +45,41 @@ fn ran(answer: Result<Ran, Refusal>) -> Told {
     }
 }
 
-impl Machine {
-    // The machine that a case starts from: the base machine, with as much of memory and page tables as the case names,
-    // and with its changes: of registers, control words and devices first, of page tables from 512 on, of memory from
-    // 1,024 on.
-    pub(crate) fn of(alloc: Global, case: Case<'_>) -> Result<Machine, AllocError> {
+impl<'a> Machine<'a> {
+    // The machine that a case starts from: the base machine, with as much of the lent memory and page tables as the
+    // case names, and with its changes: of registers, control words and devices first, of page tables from 512 on, of
+    // memory from 1,024 on.
+    pub(crate) fn of(case: Case<'_>, memory: &'a mut [u16], tables: &'a mut [u16]) -> Machine<'a> {
         let mode = case.mode();
-        let memory_words = case.memory_words().min(MOST_MEMORY);
-        let table_words = case.table_words().min(MOST_TABLES);
+        let memory_words = case.memory_words().min(memory.len());
+        let table_words = case.table_words().min(tables.len());
+        let memory = &mut memory[..memory_words];
+        let tables = &mut tables[..table_words];
         let mut state = state_words(mode);
-        let mut memory = patterned(alloc, memory_words)?;
-        let mut tables = base_tables(alloc, mode, memory_words, table_words)?;
+        fill_pattern(memory);
+        fill_tables(mode, memory_words, tables);
         for place in case.changes().step_by(2) {
             let (at, to) = case.change(place);
             match at {
                 0..512 => set(&mut state, at, to),
-                512..1024 => set(&mut tables, at - 512, to),
-                _ => set(&mut memory, at - 1024, to),
+                512..1024 => set(tables, at - 512, to),
+                _ => set(memory, at - 1024, to),
             }
         }
-        Ok(Machine {
+        Machine {
             state: state_in(&state),
             memory,
             tables,
-        })
+        }
+    }
+
+    // Memory and page tables, of which some operations only ask the sizes.
+    fn lent(&self) -> (&[u16], &[u16]) {
+        (self.memory, self.tables)
     }
 
     pub(crate) fn step(&mut self) -> Told {
-        let stepped = operations::step::step(self.state, &mut self.memory, &mut self.tables);
+        let stepped = operations::step::step(self.state, self.memory, self.tables);
         self.state = stepped.state;
         match stepped.answer {
             Ok(interrupt) => Told {
@@ -90,18 +91,13 @@ impl Machine {
     }
 
     pub(crate) fn run(&mut self, limit: u64) -> Told {
-        let left = operations::runs::through(self.state, &mut self.memory, &mut self.tables, limit);
+        let left = operations::runs::through(self.state, self.memory, self.tables, limit);
         self.state = left.state;
         ran(left.answer)
     }
 
     pub(crate) fn run_to_interrupt(&mut self, limit: u64) -> Told {
-        let left = operations::runs::to_interrupt(
-            self.state,
-            &mut self.memory,
-            &mut self.tables,
-            limit,
-        );
+        let left = operations::runs::to_interrupt(self.state, self.memory, self.tables, limit);
         self.state = left.state;
         ran(left.answer)
     }
@@ -116,8 +112,8 @@ impl Machine {
     ) -> Told {
         let left = operations::input::run_with_input(
             self.state,
-            &mut self.memory,
-            &mut self.tables,
+            self.memory,
+            self.tables,
             limit,
             steps,
             words,
@@ -136,20 +132,22 @@ impl Machine {
     }
 
     pub(crate) fn raise(&mut self, level: u16) -> Told {
-        let left = operations::raise::raise(self.state, level, &self.memory, &self.tables);
+        let (memory, tables) = self.lent();
+        let left = operations::raise::raise(self.state, level, memory, tables);
         self.state = left.state;
         answered(left.answer)
     }
 
     pub(crate) fn load(&mut self, image: &[u16]) -> Told {
-        let left = operations::load(self.state, image, &mut self.memory, &mut self.tables);
+        let left = operations::load(self.state, image, self.memory, self.tables);
         self.state = left.state;
         answered(left.answer)
     }
 
     // The output has the pattern's words before, so that those past the image show.
     pub(crate) fn write(&self, output: &mut [u16]) -> Told {
-        let answer = operations::write(self.state, &self.memory, &self.tables, output);
+        fill_pattern(output);
+        let answer = operations::write(self.state, self.memory, self.tables, output);
         Told {
             first: Checksum::of(output).value(),
             ..answered(answer)
@@ -157,8 +155,8 @@ impl Machine {
     }
 
     pub(crate) fn view(&self, target: Target, start: usize, len: usize) -> Told {
-        let answer = operations::view_answer(target, start, len, &self.memory, &self.tables);
-        let part = operations::view(target, start, len, &self.memory, &self.tables);
+        let answer = operations::view_answer(target, start, len, self.memory, self.tables);
+        let part = operations::view(target, start, len, self.memory, self.tables);
         Told {
             first: part.len() as u64,
             second: Checksum::of(part).value(),
@@ -167,51 +165,39 @@ impl Machine {
     }
 
     // Written, then loaded over a cleared state and other words; tells what the load answered, then what the write did.
-    pub(crate) fn write_and_load(
-        &mut self,
-        alloc: Global,
-        output_words: usize,
-    ) -> Result<Told, AllocError> {
-        let mut output = patterned(alloc, output_words)?;
-        let written = self.write(&mut output);
+    pub(crate) fn write_and_load(&mut self, output: &mut [u16]) -> Told {
+        let written = self.write(output);
         self.state = state_in(&[0; STATE_WORDS]);
-        self.memory = base_tables(
-            alloc,
-            PagingMode::NineteenBit,
-            PAGE_WORDS,
-            self.memory.len(),
-        )?;
-        self.tables = patterned(alloc, self.tables.len())?;
-        let loaded = self.load(&output);
-        Ok(Told {
+        fill_tables(PagingMode::NineteenBit, PAGE_WORDS, self.memory);
+        fill_pattern(self.tables);
+        let loaded = self.load(output);
+        Told {
             refusal: loaded.refusal,
             first: written.first,
             second: written.refusal,
             third: 0,
-        })
+        }
     }
 
     // What the devices are handed between steps.
     pub(crate) fn tick(&mut self) -> Told {
-        let left = operations::device::tick(self.state, &self.memory, &self.tables);
+        let (memory, tables) = self.lent();
+        let left = operations::device::tick(self.state, memory, tables);
         self.state = left.state;
         answered(left.answer)
     }
 
     pub(crate) fn type_character(&mut self, character: u8) -> Told {
-        let left = operations::device::type_character(
-            self.state,
-            character,
-            &mut self.memory,
-            &mut self.tables,
-        );
+        let (memory, tables) = self.lent();
+        let left = operations::device::type_character(self.state, character, memory, tables);
         self.state = left.state;
         answered(left.answer)
     }
 
     // Tells the character, or 256 for none.
     pub(crate) fn read_out(&mut self) -> Told {
-        let left = operations::device::read_out(self.state, &self.memory, &self.tables);
+        let (memory, tables) = self.lent();
+        let left = operations::device::read_out(self.state, memory, tables);
         self.state = left.state;
         match left.answer {
             Err(refusal) => Told::from(refusal),
@@ -242,8 +228,8 @@ impl Machine {
         } = told;
         let registers = Checksum::of(&self.state.regs);
         let control = self.control_checksum();
-        let tables = Checksum::of(&self.tables);
-        let memory = Checksum::of(&self.memory);
+        let tables = Checksum::of(self.tables);
+        let memory = Checksum::of(self.memory);
         let level = self.state.level;
         print!(rt;
             "{refusal} {first} {second} {third} {registers} {control} {tables} {memory} {level}"

@@ -1,8 +1,5 @@
 // Octal numbers in a text.
-use std::alloc::{AllocError, Global};
-
-// The most numbers that are found.
-const MOST_NUMBERS: usize = 196608;
+ghost use Rattle.std.specs.Prelude.{◌≤◌, length};
 
 fn is_octal_digit(byte: &u8) -> bool {
     matches!(byte, b'0'..=b'7')
@@ -15,16 +12,26 @@ fn number(digits: &[u8]) -> u64 {
     })
 }
 
-// The numbers of a text, in order. What is no octal digit ends a number; digits at the text's end are none.
-pub(crate) fn numbers(alloc: Global, text: &[u8]) -> Result<Vec<u64>, AllocError> {
+// The numbers of a text, in order, to the front of `to`, as many as there is room for; how many. What is no octal digit
+// ends a number; digits at the text's end are none.
+pub(crate) fn put_numbers(text: &[u8], to: &mut [u64]) -> usize
+    ensures { result ≤ length to.new }
+{
     let ended = match text.iter().rposition(|byte| !is_octal_digit(byte)) {
         Some(end) => &text[..end],
         None => &[],
     };
-    ended
+    let numbers = ended
         .split(|byte| !is_octal_digit(byte))
         .filter(|digits| !digits.is_empty())
-        .take(MOST_NUMBERS)
-        .map(number)
-        .collect(alloc)
+        .map(number);
+    let mut count = 0;
+    for value in numbers {
+        if count == to.len() {
+            break;
+        }
+        to[count] = value;
+        count += 1;
+    }
+    count
 }

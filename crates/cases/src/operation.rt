@@ -1,10 +1,8 @@
 // The operations, by number.
-use crate::base::patterned;
 use crate::case::{Case, low};
 use crate::machine::Machine;
 use crate::told::Told;
 use isa::answer::Target;
-use std::alloc::{AllocError, Global};
 use std::array;
 
 // What a case asks of the machine.
@@ -47,58 +45,47 @@ impl From<u64> for Operation {
 // The most inputs of a case.
 const MOST_INPUTS: usize = 20;
 
-// The most words of a case's output.
-const MOST_OUTPUT: usize = 70000;
-
 // A run with device input. The inputs stand behind the first argument, a step and a word each.
-fn run_with_input(
-    alloc: Global,
-    case: Case<'_>,
-    machine: &mut Machine,
-) -> Result<Told, AllocError> {
+fn run_with_input(case: Case<'_>, machine: &mut Machine<'_>, output: &mut [u16]) -> Told {
     let steps: [u64; MOST_INPUTS] = array::from_fn(|k| case.argument(k * 2 + 1));
     let words: [u16; MOST_INPUTS] = array::from_fn(|k| low(case.argument(k * 2 + 2)));
-    let count = (case.argument_count() / 2).min(MOST_OUTPUT);
-    let mut told = vec![in alloc; 0; count]?;
-    Ok(machine.run_with_input(case.argument(0), &steps, &words, &mut told))
+    let count = (case.argument_count() / 2).min(output.len());
+    machine.run_with_input(case.argument(0), &steps, &words, &mut output[..count])
 }
 
-// Does a case's operation.
-pub(crate) fn act(
-    alloc: Global,
-    case: Case<'_>,
-    machine: &mut Machine,
-) -> Result<Told, AllocError> {
+// The image that a case's arguments are.
+fn load(case: Case<'_>, machine: &mut Machine<'_>, output: &mut [u16]) -> Told {
+    let count = case.argument_count().min(output.len());
+    let image = &mut output[..count];
+    for (i, word) in image.iter_mut().enumerate() {
+        *word = low(case.argument(i));
+    }
+    machine.load(image)
+}
+
+// Does a case's operation; an image, or what an operation writes, stands in `output`.
+pub(crate) fn act(case: Case<'_>, machine: &mut Machine<'_>, output: &mut [u16]) -> Told {
     let first = case.argument(0);
-    let output_words = (first as usize).min(MOST_OUTPUT);
+    let written = (first as usize).min(output.len());
     match case.operation() {
-        Operation::Step => Ok(machine.step()),
-        Operation::Run => Ok(machine.run(first)),
-        Operation::RunToInterrupt => Ok(machine.run_to_interrupt(first)),
-        Operation::Raise => Ok(machine.raise(low(first))),
-        Operation::Load => {
-            let image_words = case.argument_count().min(MOST_OUTPUT);
-            let image: Vec<u16> = (0..image_words)
-                .map(|i| low(case.argument(i)))
-                .collect(alloc)?;
-            Ok(machine.load(&image))
-        }
-        Operation::Write => {
-            let mut output = patterned(alloc, output_words)?;
-            Ok(machine.write(&mut output))
-        }
+        Operation::Step => machine.step(),
+        Operation::Run => machine.run(first),
+        Operation::RunToInterrupt => machine.run_to_interrupt(first),
+        Operation::Raise => machine.raise(low(first)),
+        Operation::Load => load(case, machine, output),
+        Operation::Write => machine.write(&mut output[..written]),
         Operation::View => {
             let target = if first == 0 {
                 Target::Memory
             } else {
                 Target::Tables
             };
-            Ok(machine.view(target, case.argument(1) as usize, case.argument(2) as usize))
+            machine.view(target, case.argument(1) as usize, case.argument(2) as usize)
         }
-        Operation::WriteAndLoad => machine.write_and_load(alloc, output_words),
-        Operation::Tick => Ok(machine.tick()),
-        Operation::TypeCharacter => Ok(machine.type_character((first % 256) as u8)),
-        Operation::ReadOut => Ok(machine.read_out()),
-        Operation::RunWithInput => run_with_input(alloc, case, machine),
+        Operation::WriteAndLoad => machine.write_and_load(&mut output[..written]),
+        Operation::Tick => machine.tick(),
+        Operation::TypeCharacter => machine.type_character((first % 256) as u8),
+        Operation::ReadOut => machine.read_out(),
+        Operation::RunWithInput => run_with_input(case, machine, output),
     }
 }

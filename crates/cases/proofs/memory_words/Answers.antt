@@ -1,0 +1,7 @@
+-- As many as are made.
+use Rattle.std.proofs.Common.{ℕ, sym}
+use Rattle.std.proofs.lemmas.List.{length-replicate}
+use Rattle.cases.proofs.memory_words.Goals as goal
+
+pub returns : goal.returns
+returns c = sym (length-replicate {A = ℕ} 525312 0)
