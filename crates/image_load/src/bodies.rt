@@ -13,6 +13,7 @@ use isa::constant::{
 };
 use isa::device::{DeviceWords, Devices};
 use isa::machine::{Control, Pcrs, RegisterWords, State};
+use words::copy_words;
 
 // An entry's body, if it is of the kind.
 fn place(kind: Kind, e: Span, body: &[u16], target: &mut [u16])
@@ -23,7 +24,7 @@ fn place(kind: Kind, e: Span, body: &[u16], target: &mut [u16])
         target.old }
 {
     if e.kind == u16::from(kind) {
-        target[e.start as usize..e.end()].copy_from_slice(body);
+        copy_words(body, &mut target[e.start as usize..e.end()]);
     }
 }
 

@@ -18,6 +18,7 @@ use isa::constant::{
 };
 use isa::device::{DeviceWords, Devices};
 use isa::machine::{Control, State};
+use words::copy_words;
 
 // Where the page tables and the devices stand among an image's words beside memory.
 const TABLE_PLACE: usize = CONTENTS_SIZE + REGISTER_WORDS + CONTROL_COUNT;
@@ -111,7 +112,7 @@ fn put(out: &mut [u16], at: usize, words: &[u16])
     requires { at + length words.now ≤ length out.old }
     ensures { out.new ≡ paste out.old at words.now (length words.now) }
 {
-    out[at..at + words.len()].copy_from_slice(words);
+    copy_words(words, &mut out[at..at + words.len()]);
 }
 
 // Contents and memory, at the front of the output.

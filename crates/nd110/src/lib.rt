@@ -28,6 +28,7 @@ use operations::input::{InputRunResult, run_with_input};
 use operations::raise::raise;
 use operations::runs::run_by;
 use run::step::{StepEnd, step};
+use words::copy_words;
 
 // The number of a call that is no operation.
 const BAD_CALL: u16 = 255;
@@ -472,7 +473,7 @@ pub extern "C" fn nd110_view<'a>(
     let n = nd110_view_answer(kind, start, len, mem, tables);
     if known_target(kind) {
         let part = operations::view(target_named(kind), start, len, mem, tables);
-        out[..part.len()].copy_from_slice(part);
+        copy_words(part, &mut out[..part.len()]);
     }
     n
 }
