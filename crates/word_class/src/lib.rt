@@ -50,8 +50,8 @@ pub enum Class {
     Illegal,
 }
 
-// The class by a decision over ranges, which the table is tested against. The numbers are document 002's codes without
-// their last two digits.
+// The class by a decision over ranges: the table and it are proved to be one definition, and no program goes by it. The
+// numbers are document 002's codes without their last two digits.
 #[tactic(auto, unfolding(crate::specs::Classes::class_of, isa::specs::Decode::by_code))]
 pub fn decided(n: u16) -> Class
     requires { n < sorted_values }
