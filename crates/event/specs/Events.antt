@@ -28,6 +28,17 @@ abbrev pub is_fine : Option Event → Bool
 is_fine None = true
 is_fine (Some e) = false
 
+-- an access that failed tells its fault
+abbrev pub tells_fault : Option Event → Bool
+tells_fault None = true
+tells_fault (Some (Failed None)) = false
+tells_fault (Some (Failed (Some x))) = true
+tells_fault (Some Error) = true
+tells_fault (Some (Privileged q)) = true
+tells_fault (Some NotPrivileged) = true
+tells_fault (Some (Monitor n)) = true
+tells_fault (Some Illegal) = true
+
 -- the ending of a completion that makes no access: RDIV's error is an event
 abbrev pub ending_of : Completed → Ending
 ending_of k = record { references = 0; event = cond k.error (Some Error) None; file = k.file }

@@ -1,6 +1,7 @@
 // An instruction's request at its effective address: the accesses, what is made of the words read, and the words
 // stored.
-ghost use Rattle.std.specs.Prelude.{◌≡◌, ◌<◌};
+ghost use Rattle.std.specs.Prelude.{◌≡◌, ◌<◌, true};
+ghost use Rattle.event.specs.Events.{tells_fault};
 ghost use Rattle.exec_memory.specs.Served.{Served};
 
 use crate::several::words;
@@ -13,7 +14,8 @@ use memory_words::location::Location;
 
 pub fn serve(f: File, mem: &mut [u16], tables: &mut PageTables, x: Location, q: Request) -> Ending
     requires normal_bound { (x.rights.normal < 4) × (x.rights.alternate < 4) }
-    ensures { Served f q x mem.old tables.old result mem.new tables.new }
+    ensures served { Served f q x mem.old tables.old result mem.new tables.new }
+    ensures told { tells_fault result.event ≡ true }
 {
     match q {
         Request::Jump => fine(f.with(Register::P, x.address)),

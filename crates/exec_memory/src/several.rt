@@ -1,5 +1,6 @@
 // LDD, LDF, STD and STF: two or three words, all tested before the first is taken.
-ghost use Rattle.std.specs.Prelude.{◌≡◌, ◌<◌, ◌≤◌, length};
+ghost use Rattle.std.specs.Prelude.{◌≡◌, ◌<◌, ◌≤◌, true, length};
+ghost use Rattle.event.specs.Events.{tells_fault};
 ghost use Rattle.isa.specs.Pages.{test_all, words_at};
 ghost use Rattle.exec_address.specs.declared.request.Request.TheVariants.{Several};
 ghost use Rattle.isa.specs.declared.access.AccessKind.TheVariants.{Read};
@@ -25,7 +26,8 @@ fn store_several<const N: usize>(
 ) -> Ending
     requires normal_bound { (x.rights.normal < 4) × (x.rights.alternate < 4) }
     requires few { N ≤ 3 }
-    ensures { StoredWords f x words.entry N mem.old tables.old result mem.new tables.new }
+    ensures stored { StoredWords f x words.entry N mem.old tables.old result mem.new tables.new }
+    ensures told { tells_fault result.event ≡ true }
 {
     match test_words(tables, mem.len(), x, AccessKind::Write) {
         Ok(places) => {
@@ -60,8 +62,9 @@ pub(crate) fn words(
     n: u16,
 ) -> Ending
     requires normal_bound { (x.rights.normal < 4) × (x.rights.alternate < 4) }
-    ensures { Served f (Several store n) x mem.old tables.old result mem.new
+    ensures served { Served f (Several store n) x mem.old tables.old result mem.new
         tables.new }
+    ensures told { tells_fault result.event ≡ true }
 {
     if store {
         let w = stored_more(n, f);

@@ -1,5 +1,6 @@
 // One word is read or written.
-ghost use Rattle.std.specs.Prelude.{◌<◌};
+ghost use Rattle.std.specs.Prelude.{◌≡◌, ◌<◌, true};
+ghost use Rattle.event.specs.Events.{tells_fault};
 ghost use Rattle.exec_address.specs.declared.request.Request.TheVariants.{Read, Write};
 ghost use Rattle.exec_memory.specs.Served.{Served};
 
@@ -14,8 +15,9 @@ use paging::place::{store_at, word_at};
 
 pub fn read_word(f: File, mem: &[u16], tables: &mut PageTables, x: Location, k: Reading) -> Ending
     requires normal_bound { (x.rights.normal < 4) × (x.rights.alternate < 4) }
-    ensures { Served f (Read k) x mem.now tables.old result mem.now
+    ensures served { Served f (Read k) x mem.now tables.old result mem.now
         tables.new }
+    ensures told { tells_fault result.event ≡ true }
 {
     match test_word(tables, mem.len(), x, AccessKind::Read) {
         Ok(p) => done(loaded(k, f, word_at(mem, tables, Some(p))), 1),
@@ -31,8 +33,9 @@ pub(crate) fn write_word(
     w: u16,
 ) -> Ending
     requires normal_bound { (x.rights.normal < 4) × (x.rights.alternate < 4) }
-    ensures { Served f (Write w) x mem.old tables.old result mem.new
+    ensures served { Served f (Write w) x mem.old tables.old result mem.new
         tables.new }
+    ensures told { tells_fault result.event ≡ true }
 {
     match test_word(tables, mem.len(), x, AccessKind::Write) {
         Ok(p) => {

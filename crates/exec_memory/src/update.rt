@@ -1,5 +1,6 @@
 // MIN and SBYT: a word is read, and another written in its place.
-ghost use Rattle.std.specs.Prelude.{◌<◌};
+ghost use Rattle.std.specs.Prelude.{◌≡◌, ◌<◌, true};
+ghost use Rattle.event.specs.Events.{tells_fault};
 ghost use Rattle.exec_address.specs.declared.request.Request.TheVariants.{Update};
 ghost use Rattle.exec_address.specs.declared.request.Change.TheVariants.{PutByte};
 ghost use Rattle.exec_memory.specs.Served.{Served, after_exchange};
@@ -41,8 +42,9 @@ pub(crate) fn update(
     k: Change,
 ) -> Ending
     requires normal_bound { (x.rights.normal < 4) × (x.rights.alternate < 4) }
-    ensures { Served f (Update k) x mem.old tables.old result mem.new
+    ensures served { Served f (Update k) x mem.old tables.old result mem.new
         tables.new }
+    ensures told { tells_fault result.event ≡ true }
 {
     match exchange(f, mem, tables, x, k) {
         Ok(w) => done(after_change(k, f, w), 2),
@@ -53,8 +55,9 @@ pub(crate) fn update(
 // SBYT, which is not served as MIN is: as one function the run's loop takes 80 machine instructions a step more.
 pub fn put_byte(f: File, mem: &mut [u16], tables: &mut PageTables, x: Location) -> Ending
     requires normal_bound { (x.rights.normal < 4) × (x.rights.alternate < 4) }
-    ensures { Served f (Update PutByte) x mem.old tables.old result mem.new
+    ensures served { Served f (Update PutByte) x mem.old tables.old result mem.new
         tables.new }
+    ensures told { tells_fault result.event ≡ true }
 {
     match exchange(f, mem, tables, x, Change::PutByte) {
         Ok(_) => done(f, 2),

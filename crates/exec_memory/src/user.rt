@@ -1,9 +1,10 @@
 // An unprivileged instruction.
-ghost use Rattle.std.specs.Prelude.{◌≡◌, ◌<◌};
+ghost use Rattle.std.specs.Prelude.{◌≡◌, ◌<◌, true};
 ghost use Rattle.isa.specs.declared.instruction.User.TheVariants.{Memory};
 ghost use Rattle.isa.specs.Machine.{reg};
 ghost use Rattle.isa.specs.declared.machine.Register.TheVariants.{Sts};
 ghost use Rattle.paging.specs.Levels.{by_flags};
+ghost use Rattle.event.specs.Events.{tells_fault};
 ghost use Rattle.exec_memory.specs.Stages.{UserStage, byte_location};
 
 use crate::address::address_of;
@@ -31,8 +32,9 @@ fn memory_stage(
     d: i16,
 ) -> Ending
     requires normal_bound { (r.normal < 4) × (r.alternate < 4) }
-    ensures { UserStage f at r (Memory o m d) mem.old tables.old result mem.new
+    ensures user_stage { UserStage f at r (Memory o m d) mem.old tables.old result mem.new
         tables.new }
+    ensures told { tells_fault result.event ≡ true }
 {
     match address_of(f, at, r, mem, tables, m, d) {
         Ok(e) => {
@@ -69,8 +71,9 @@ pub fn user_stage(
     u: User,
 ) -> Ending
     requires normal_bound { (r.normal < 4) × (r.alternate < 4) }
-    ensures { UserStage f at (by_flags r (reg f Sts)) u mem.old tables.old result
+    ensures user_stage { UserStage f at (by_flags r (reg f Sts)) u mem.old tables.old result
         mem.new tables.new }
+    ensures told { tells_fault result.event ≡ true }
 {
     // memory operations first: so ordered, the run's loop takes the fewest machine instructions (docs/BENCHMARK.md)
     if let User::Memory(o, m, d) = u {

@@ -1,9 +1,10 @@
 // The word that was fetched: decoded, and executed as far as the level's registers, memory and tables go.
-ghost use Rattle.std.specs.Prelude.{◌≡◌, ◌<◌};
+ghost use Rattle.std.specs.Prelude.{◌≡◌, ◌<◌, true};
 ghost use Rattle.isa.specs.Decode.{decode};
 ghost use Rattle.isa.specs.Machine.{reg};
 ghost use Rattle.isa.specs.declared.machine.Register.TheVariants.{Sts};
 ghost use Rattle.paging.specs.Levels.{by_flags};
+ghost use Rattle.event.specs.Events.{tells_fault};
 ghost use Rattle.exec_step.specs.Steps.{InstructionStage, FineAlone, ExecutedWord, followed};
 
 use event::{Ending, Event, with_event};
@@ -27,6 +28,7 @@ fn instruction_stage(
     ensures instruction_stage { InstructionStage f at (by_flags r (reg f Sts)) i mem.old tables.old result
         mem.new tables.new }
     ensures fine_alone { FineAlone i result }
+    ensures told { tells_fault result.event ≡ true }
 {
     match i {
         Instruction::Unprivileged(u) => user_stage(f, at, r, mem, tables, u),
@@ -68,6 +70,7 @@ pub fn executed_word(
     ensures executed_word { ExecutedWord f at r w mem.old tables.old result mem.new
         tables.new }
     ensures fine_alone { FineAlone (decode (followed f w)) result }
+    ensures told { tells_fault result.event ≡ true }
 {
     instruction_stage(f, at, r, mem, tables, followed(f, w))
 }

@@ -11,7 +11,7 @@ ghost use Rattle.isa.specs.declared.machine.Register.TheVariants.{P};
 ghost use Rattle.paging.specs.Levels.{on_ring};
 ghost use Rattle.exec_step.specs.Fetches.{Kept, page_left};
 ghost use Rattle.exec_step.specs.Steps.{StepOfLevel};
-ghost use Rattle.event.specs.Events.{is_fine};
+ghost use Rattle.event.specs.Events.{is_fine, tells_fault};
 
 use crate::fetch::{Page, fetch, no_page};
 use crate::instruction::executed_word;
@@ -46,6 +46,7 @@ pub fn step_in(f: File, r: Rights, k: Page, mem: &mut [u16], tables: &mut PageTa
         (translate tables.old (length mem.old) r (access Fetch false (reg f P))) }
     ensures kept_after { is_fine result.event ≡ true
         → Kept (length mem.new) (on_ring r result.ring) result.page tables.new }
+    ensures told { tells_fault result.event ≡ true }
 {
     let at = f.get(Register::P);
     match fetch(at, r, k, mem, tables) {

@@ -2,8 +2,9 @@
 // that what is tested before a step need not be tested again.
 #![tactic(auto)]
 
-ghost use Rattle.std.specs.Prelude.{◌≡◌, ◌<◌};
+ghost use Rattle.std.specs.Prelude.{◌≡◌, ◌<◌, true};
 ghost use Rattle.isa.specs.Pages.{lowered_pcr};
+ghost use Rattle.event.specs.Events.{tells_fault};
 ghost use Rattle.run_level.specs.Bursts.{QuietSteps, QuietStep};
 
 use event::Event;
@@ -68,6 +69,7 @@ pub fn quiet_steps(
         tables.new }
     ensures quiet_step { QuietStep f p paging extended mem.old tables.old result mem.new
         tables.new }
+    ensures told { tells_fault result.event ≡ true }
 {
     let base = level_rights(p, paging, extended);
     let mut file = f;

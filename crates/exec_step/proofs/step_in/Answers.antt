@@ -11,7 +11,7 @@ use Rattle.exec_step.specs.Fetches.{Kept}
 use Rattle.event.specs.Events.{is_fine}
 use Rattle.event.specs.declared.Event.{Event}
 use Rattle.exec_step.proofs.Fetches.{word_keeps, fine_before}
-use Rattle.exec_step.proofs.Steps.{step_passed, step_failed}
+use Rattle.exec_step.proofs.Steps.{step_passed, step_failed, privilege_tells}
 use Rattle.exec_step.proofs.step_in.Goals as goal
 
 -- what the code found of the fetch from P
@@ -44,6 +44,10 @@ returns-in-Ok-clause-kept_after c =
     subst (λ (n : ℕ). Kept n rights g.page e.new.tables) (sym e.auto.mem)
     (word_keeps (length a.mem.now) a.f rights g.page g.word _ _ e.result _ _ c.requires.normal_bound word alone
     (fine_before _ e.result.event own) c.in-Ok.ensures.kept_after)
+
+pub returns-in-Ok-clause-told : goal.returns-in-Ok-clause-told
+returns-in-Ok-clause-told c =
+    let e = c.executed_word-e in rw c.by_privilege.ensures (privilege_tells _ e.result.event e.ensures.told)
 
 -- it failed
 pub returns-in-Err-clause-step_of_level : goal.returns-in-Err-clause-step_of_level

@@ -6,8 +6,8 @@ use Rattle.exec_address.specs.declared.request.Request.TheVariants.{Jump, Link}
 use Rattle.exec_memory.proofs.request.serve.Goals as goal
 
 -- JMP
-pub returns-in-Jump : goal.returns-in-Jump
-returns-in-Jump c =
+pub returns-in-Jump-clause-served : goal.returns-in-Jump-clause-served
+returns-in-Jump-clause-served c =
     let a = c.args in
     let t = a.tables.now in
     rw c.in-Jump.is
@@ -15,8 +15,8 @@ returns-in-Jump c =
     (ap loads c.with.ensures))
 
 -- JPL
-pub returns-in-Link : goal.returns-in-Link
-returns-in-Link c =
+pub returns-in-Link-clause-served : goal.returns-in-Link-clause-served
+returns-in-Link-clause-served c =
     let a = c.args in
     let t = a.tables.now in
     rw c.in-Link.is

@@ -7,8 +7,8 @@ use Rattle.exec_memory.proofs.RequestLaws.{Passed, Stopped, all_passed, one_stop
 use Rattle.exec_memory.proofs.several.store_several.Goals as goal
 
 -- all passed
-pub returns-in-Ok : goal.returns-in-Ok
-returns-in-Ok g c =
+pub returns-in-Ok-clause-stored : goal.returns-in-Ok-clause-stored
+returns-in-Ok-clause-stored g c =
     let a = c.args in
     let t = a.tables.now in
     let m = a.mem.now in
@@ -21,8 +21,8 @@ returns-in-Ok g c =
     c.done.ensures (sym (h _)) c.store_words.ensures
 
 -- one failed
-pub returns-in-Err : goal.returns-in-Err
-returns-in-Err g c =
+pub returns-in-Err-clause-stored : goal.returns-in-Err-clause-stored
+returns-in-Err-clause-stored g c =
     let a = c.args in
     let t = a.tables.now in
     let m = a.mem.now in

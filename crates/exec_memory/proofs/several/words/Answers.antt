@@ -13,30 +13,31 @@ use Rattle.exec_memory.proofs.RequestLaws.{read_stopped, made_few, all_read, rea
 use Rattle.exec_memory.proofs.several.words.Goals as goal
 
 -- STD
-pub returns-then-n-eq2 : goal.returns-then-n-eq2
-returns-then-n-eq2 c =
+pub returns-then-n-eq2-clause-served : goal.returns-then-n-eq2-clause-served
+returns-then-n-eq2-clause-served c =
     let a = c.args in
     let two = eq-eqb _ _ c.if-n-eq2.true in
     let kind = ap several_kind c.if-store.true in
     let w = c.stored_more-w.result in
-    c.store_several.ensures (Several a.store a.n) (accesses_two a.store a.n Write a.x.alternate a.x.address kind two)
+    c.store_several.ensures.stored (Several a.store a.n)
+    (accesses_two a.store a.n Write a.x.alternate a.x.address kind two)
     (λ vs. sym (several_stored a.n c.if-store.true a.f a.x.address vs)
     ∙ ap (storing a.f) (sym (two_stored a.n a.f w two c.stored_more-w.ensures)))
 
 -- STF
-pub returns-else-n-eq2 : goal.returns-else-n-eq2
-returns-else-n-eq2 c =
+pub returns-else-n-eq2-clause-served : goal.returns-else-n-eq2-clause-served
+returns-else-n-eq2-clause-served c =
     let a = c.args in
     let three = ne_eqb _ _ c.if-n-eq2.false in
     let kind = ap several_kind c.if-store.true in
-    c.store_several-else-n-eq2.ensures (Several a.store a.n)
+    c.store_several-else-n-eq2.ensures.stored (Several a.store a.n)
     (accesses_three a.store a.n Write a.x.alternate a.x.address kind three)
     (λ vs. sym (several_stored a.n c.if-store.true a.f a.x.address vs)
     ∙ ap (storing a.f) (sym (c.stored_more-w.ensures ∙ three_stored_law a.n a.f three)))
 
 -- LDD
-pub returns-in-Ok : goal.returns-in-Ok
-returns-in-Ok c =
+pub returns-in-Ok-clause-served : goal.returns-in-Ok-clause-served
+returns-in-Ok-clause-served c =
     let a = c.args in
     let m = a.mem.now in
     let t = a.tables.now in
@@ -52,8 +53,8 @@ returns-in-Ok c =
     (c.loaded_more.ensures ∙ two_loaded a.n a.f c.in-Ok.w two ∙ ap (words_loaded a.n a.f) r.1)
     ∙ several_loaded a.n c.if-store.false a.f a.x.address (words_at m u ps))
 
-pub returns-in-Err : goal.returns-in-Err
-returns-in-Err c =
+pub returns-in-Err-clause-served : goal.returns-in-Err-clause-served
+returns-in-Err-clause-served c =
     let a = c.args in
     let m = a.mem.now in
     let t = a.tables.now in
@@ -66,8 +67,8 @@ returns-in-Err c =
     (read_stopped t m a.x (Several a.store a.n) 2 u c.in-Err.e e r) c.failed.ensures
 
 -- LDF
-pub returns-in-Ok-read_several : goal.returns-in-Ok-read_several
-returns-in-Ok-read_several c =
+pub returns-in-Ok-read_several-clause-served : goal.returns-in-Ok-read_several-clause-served
+returns-in-Ok-read_several-clause-served c =
     let a = c.args in
     let m = a.mem.now in
     let t = a.tables.now in
@@ -84,8 +85,8 @@ returns-in-Ok-read_several c =
     ∙ ap (words_loaded a.n a.f) r.1)
     ∙ several_loaded a.n c.if-store.false a.f a.x.address (words_at m u ps))
 
-pub returns-in-Err-read_several : goal.returns-in-Err-read_several
-returns-in-Err-read_several c =
+pub returns-in-Err-read_several-clause-served : goal.returns-in-Err-read_several-clause-served
+returns-in-Err-read_several-clause-served c =
     let a = c.args in
     let m = a.mem.now in
     let t = a.tables.now in

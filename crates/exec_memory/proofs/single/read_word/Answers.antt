@@ -7,8 +7,8 @@ use Rattle.exec_memory.proofs.RequestLaws.{first_passed, first_stopped, none_pas
 use Rattle.exec_memory.proofs.single.read_word.Goals as goal
 
 -- it passed
-pub returns-in-Ok : goal.returns-in-Ok
-returns-in-Ok c =
+pub returns-in-Ok-clause-served : goal.returns-in-Ok-clause-served
+returns-in-Ok-clause-served c =
     let a = c.args in
     let m = a.mem.now in
     let t = c.test_word in
@@ -21,8 +21,8 @@ returns-in-Ok c =
     (ap loads (c.loaded.ensures ∙ ap (loaded_by a.k a.f) c.word_at.ensures))
 
 -- it failed
-pub returns-in-Err : goal.returns-in-Err
-returns-in-Err c =
+pub returns-in-Err-clause-served : goal.returns-in-Err-clause-served
+returns-in-Err-clause-served c =
     let a = c.args in
     let m = a.mem.now in
     let t = c.test_word in
