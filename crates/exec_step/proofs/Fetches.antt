@@ -25,6 +25,7 @@ use Rattle.isa.specs.declared.access.Place.{Place}
 use Rattle.isa.specs.declared.access.Place.TheVariants.{Load, Store, LoadTable, StoreTable}
 use Rattle.isa.specs.declared.instruction.Instruction.{Instruction}
 use Rattle.isa.specs.declared.instruction.Instruction.TheVariants as instructions
+use Rattle.isa.specs.declared.instruction.System.{System}
 use Rattle.isa.specs.declared.machine.Control.{Control}
 use Rattle.isa.specs.declared.machine.Core.{Core}
 use Rattle.isa.specs.declared.machine.File.{File}
@@ -199,16 +200,23 @@ unfolding event_part by_privilege
 fine_tables l c m t b None h = refl
 fine_tables l c m t b (Some e) h = absurd (no_both h)
 
--- privilege makes no event fine
-pub fine_before : (b : Bool) (e : Option Event) → is_fine (by_privilege b e) ≡ true → is_fine e ≡ true
+-- privilege changes nothing for a test that takes NotPrivileged as it takes a privileged instruction
+pub privilege_alike : (test : Option Event → Bool)
+    → ((q : System) → test (Some NotPrivileged) ≡ test (Some (Privileged q)))
+    → (b : Bool) (e : Option Event) → test (by_privilege b e) ≡ test e
 unfolding by_privilege
-fine_before b None h = refl
-fine_before b (Some (Failed x)) h = h
-fine_before b (Some Error) h = h
-fine_before b (Some (Privileged q)) h = h
-fine_before b (Some NotPrivileged) h = h
-fine_before b (Some (Monitor n)) h = h
-fine_before b (Some Illegal) h = h
+privilege_alike test h b None = refl
+privilege_alike test h b (Some (Failed x)) = refl
+privilege_alike test h b (Some Error) = refl
+privilege_alike test h true (Some (Privileged q)) = refl
+privilege_alike test h false (Some (Privileged q)) = h q
+privilege_alike test h b (Some NotPrivileged) = refl
+privilege_alike test h b (Some (Monitor n)) = refl
+privilege_alike test h b (Some Illegal) = refl
+
+-- .. so it makes no event fine
+pub fine_before : (b : Bool) (e : Option Event) → is_fine (by_privilege b e) ≡ true → is_fine e ≡ true
+fine_before b e h = sym (privilege_alike is_fine (λ q. refl) b e) ∙ h
 
 -- a PCR with the rights r
 abbrev pcr_with : Rights → ℕ

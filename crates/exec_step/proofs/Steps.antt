@@ -7,7 +7,7 @@ use mathlib.Core.List.{List}
 use lib.ListN.{length}
 use lib.Dec.{eqb}
 use Rattle.std.specs.declared.option.Option.{Option}
-use Rattle.std.specs.declared.option.Option.TheVariants.{None, Some}
+use Rattle.std.specs.declared.option.Option.TheVariants.{Some}
 use Rattle.isa.specs.Machine.{reg, next, next_core, normal_table_of}
 use Rattle.isa.specs.Decode.{decode}
 use Rattle.isa.specs.Address.{access}
@@ -30,11 +30,10 @@ use Rattle.isa.specs.declared.machine.File.{File}
 use Rattle.isa.specs.declared.machine.Register.TheVariants.{Sts, P}
 use Rattle.paging.specs.Levels.{level_rights, by_flags, on_ring, privileged_by}
 use Rattle.paging.proofs.Levels.{ring_rights, same_ring}
-use Rattle.event.specs.Events.{event_part, by_privilege, ended_part, tells_fault}
+use Rattle.event.specs.Events.{event_part, by_privilege, ended_part}
 use Rattle.event.specs.declared.Ending.{Ending}
 use Rattle.event.specs.declared.Event.{Event}
-use Rattle.event.specs.declared.Event.TheVariants.{Failed as Faulted, Privileged as ByRing, Error, NotPrivileged}
-use Rattle.event.specs.declared.Event.TheVariants.{Monitor as Called, Illegal as NoCode}
+use Rattle.event.specs.declared.Event.TheVariants.{Failed as Faulted, Privileged as ByRing}
 use Rattle.isa.proofs.Counts.{counted_twice, counted_none}
 use Rattle.exec_memory.specs.Served.{Executing}
 use Rattle.exec_memory.specs.Stages.{level_core, ring_after}
@@ -60,18 +59,6 @@ pub privileged_part : (l : ℕ) (c : Core) (m t : List ℕ) (q : System) (b : Bo
 unfolding event_part by_privilege
 privileged_part l c m t q true = refl
 privileged_part l c m t q false = refl
-
--- .. and no privilege takes the fault from an access that failed
-pub privilege_tells : (b : Bool) (e : Option Event) → tells_fault e ≡ true → tells_fault (by_privilege b e) ≡ true
-unfolding by_privilege
-privilege_tells b None h = h
-privilege_tells b (Some (Faulted x)) h = h
-privilege_tells b (Some Error) h = h
-privilege_tells true (Some (ByRing q)) h = h
-privilege_tells false (Some (ByRing q)) h = h
-privilege_tells b (Some NotPrivileged) h = h
-privilege_tells b (Some (Called n)) h = h
-privilege_tells b (Some NoCode) h = h
 
 -- an event without a reference, which leaves the file as it is
 pub event_left : {c : Core} {f : File} {r : Rights} (l : ℕ) (m t : List ℕ) {z : Ending} {e : Option Event} → Executing c f r

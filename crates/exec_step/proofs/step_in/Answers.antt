@@ -8,10 +8,10 @@ use Rattle.isa.specs.declared.machine.File.{File}
 use Rattle.isa.specs.declared.machine.Register.TheVariants.{P}
 use Rattle.paging.specs.Levels.{on_ring, privileged_by}
 use Rattle.exec_step.specs.Fetches.{Kept}
-use Rattle.event.specs.Events.{is_fine}
+use Rattle.event.specs.Events.{is_fine, tells_fault}
 use Rattle.event.specs.declared.Event.{Event}
-use Rattle.exec_step.proofs.Fetches.{word_keeps, fine_before}
-use Rattle.exec_step.proofs.Steps.{step_passed, step_failed, privilege_tells}
+use Rattle.exec_step.proofs.Fetches.{word_keeps, fine_before, privilege_alike}
+use Rattle.exec_step.proofs.Steps.{step_passed, step_failed}
 use Rattle.exec_step.proofs.step_in.Goals as goal
 
 -- what the code found of the fetch from P
@@ -47,7 +47,8 @@ returns-in-Ok-clause-kept_after c =
 
 pub returns-in-Ok-clause-told : goal.returns-in-Ok-clause-told
 returns-in-Ok-clause-told c =
-    let e = c.executed_word-e in rw c.by_privilege.ensures (privilege_tells _ e.result.event e.ensures.told)
+    let e = c.executed_word-e in
+    rw c.by_privilege.ensures (privilege_alike tells_fault (λ q. refl) _ e.result.event ∙ e.ensures.told)
 
 -- it failed
 pub returns-in-Err-clause-step_of_level : goal.returns-in-Err-clause-step_of_level
